@@ -1,0 +1,65 @@
+-- A queue is its items, oldest first: the cells below its length. What stands past the length is in no list.
+use Prim.Native.Nat.{ℕ, zero, suc}
+use mathlib.Core.List.{List, [], _∷_, _++_}
+use mathlib.Core.Bool.{Bool, true, cond, _&&_}
+use lib.ListN.{length, drop, replicate}
+use lib.Dec.{leb, ltb, eqb}
+use Rattle.queue.specs.declared.Queue.{Queue}
+use Rattle.queue.specs.declared.Batches.{Batches}
+use Rattle.queue.specs.declared.Found.{Found}
+use Rattle.queue.specs.declared.Found.the-variants.{At, Nothing}
+
+-- the first n cells, and zeros where there are no more cells: so the list is as long as the length says, whatever it says
+unfoldable pub front : ℕ → List ℕ → List ℕ
+front zero cells = []
+front (suc n) [] = 0 ∷ front n []
+front (suc n) (c ∷ cells) = c ∷ front n cells
+
+-- the items of a queue, and of the unacknowledged batches
+unfoldable pub itemsOf : Queue → List ℕ
+unfolding front
+itemsOf q = front (q .len) (q .cells)
+
+unfoldable pub batchesOf : Batches → List ℕ
+unfolding front
+batchesOf b = front (b .len) (b .cells)
+
+-- a fresh queue: 128 zeros and a length of 0
+abbrev pub freshQueue : Queue
+freshQueue = record { cells = replicate 128 0; len = 0 }
+
+abbrev pub freshBatches : Batches
+freshBatches = record { cells = replicate 8 0; len = 0 }
+
+-- one more at the end of at most `size` items; unchanged where it is full
+unfoldable pub pushed : ℕ → ℕ → List ℕ → List ℕ
+pushed size x q = cond (ltb (length q) size) (q ++ (x ∷ [])) q
+
+-- without the first k of at most `size` items; unchanged where there are more items than that
+unfoldable pub skipped : ℕ → ℕ → List ℕ → List ℕ
+skipped size k q = cond (leb (length q) size) (drop k q) q
+
+-- every item passes a test
+unfoldable pub all : (ℕ → Bool) → List ℕ → Bool
+all p [] = true
+all p (x ∷ xs) = p x && all p xs
+
+-- a number of low to high
+abbrev pub between : ℕ → ℕ → ℕ → Bool
+between low high x = leb low x && leb x high
+
+-- an index of 1 to l; an index of at most l
+abbrev pub queuedIn : ℕ → ℕ → Bool
+queuedIn l x = leb 1 x && leb x l
+
+abbrev pub heldIn : ℕ → ℕ → Bool
+heldIn l x = leb x l
+
+-- the place of the first item that equals x
+unfoldable pub findFrom : ℕ → ℕ → List ℕ → Found
+findFrom x k [] = Nothing
+findFrom x k (y ∷ ys) = cond (eqb y x) (At k) (findFrom x (suc k) ys)
+
+-- the place of the first of at most 8 batches that equals x; nothing where there are more batches than that
+abbrev pub findIn : ℕ → List ℕ → Found
+findIn x b = cond (leb (length b) 8) (findFrom x 0 b) Nothing

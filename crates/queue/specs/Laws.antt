@@ -1,0 +1,267 @@
+-- Laws of the first n cells, of the lists that the operations make, of a test of every item, and of a search.
+use Prim.Native.Nat.{ℕ, zero, suc, _+_, _-_, _≤_, _<_, zero-le}
+use native.Mathlib.Nat.{le-of-suc-le-suc, not-suc-le-zero, suc-sub-suc, sub-zero, zero-sub}
+use native.Mathlib.Numerals.{add-one}
+use native.Mathlib.Omega.{arith}
+use mathlib.Core.Path.{_≡_, refl, sym, ap}
+use mathlib.Core.List.{List, [], _∷_, _++_}
+use mathlib.Core.Bool.{Bool, true, false, _&&_, and-assoc, and-eq-true-iff}
+use lib.ListN.{length, take, drop, getD, set, length-append, length-drop, List·getD-eq-default, drop-of-length-le}
+use lib.Seq.{drop-cons, drop-nil}
+use lib.Dec.{leb, ltb, eqb, leb·zero}
+use borrow.Author.Tests.{lt-ltb, le-ltb, le-leb, lt-leb, ltb-true, ltb-false, leb-true, leb-false, eqb-true, eqb-false}
+use Rattle.queue.specs.declared.Queue.{Queue}
+use Rattle.queue.specs.declared.Batches.{Batches}
+use Rattle.queue.specs.declared.Found.the-variants.{At, Nothing}
+use Rattle.queue.specs.Items.{front, itemsOf, batchesOf, freshQueue, freshBatches, pushed, skipped, all, between, heldIn, findFrom}
+
+-- front
+
+pub front-length : (n : ℕ) (cells : List ℕ) → length (front n cells) ≡ n
+unfolding front
+front-length zero cells = refl
+front-length (suc n) [] = ap suc (front-length n [])
+front-length (suc n) (c ∷ cells) = ap suc (front-length n cells)
+
+pub front-take : (n : ℕ) (cells : List ℕ) → n ≤ length cells → front n cells ≡ take n cells
+unfolding front
+front-take zero cells h = refl
+front-take (suc n) [] h = absurd (not-suc-le-zero h)
+front-take (suc n) (c ∷ cells) h = ap (λ (t : List ℕ). c ∷ t) (front-take n cells (le-of-suc-le-suc h))
+
+pub front-suc : (n : ℕ) (cells : List ℕ) → front (suc n) cells ≡ front n cells ++ (getD cells n 0 ∷ [])
+unfolding front
+front-suc zero [] = refl
+front-suc zero (c ∷ cells) = refl
+front-suc (suc n) [] = ap (λ (t : List ℕ). 0 ∷ t) (front-suc n [])
+front-suc (suc n) (c ∷ cells) = ap (λ (t : List ℕ). c ∷ t) (front-suc n cells)
+
+-- a cell at or past the length does not show
+pub front-set : (n : ℕ) (cells : List ℕ) (i x : ℕ) → n ≤ i → front n (set cells i x) ≡ front n cells
+unfolding front
+front-set zero cells i x h = refl
+front-set (suc n) [] i x h = refl
+front-set (suc n) (c ∷ cells) zero x h = absurd (not-suc-le-zero h)
+front-set (suc n) (c ∷ cells) (suc i) x h = ap (λ (t : List ℕ). c ∷ t) (front-set n cells i x (le-of-suc-le-suc h))
+
+pub front-push : (n : ℕ) (cells : List ℕ) (x : ℕ) → n < length cells → front (suc n) (set cells n x) ≡ front n cells ++ (x ∷ [])
+unfolding front
+front-push zero [] x h = absurd (not-suc-le-zero h)
+front-push zero (c ∷ cells) x h = refl
+front-push (suc n) [] x h = absurd (not-suc-le-zero h)
+front-push (suc n) (c ∷ cells) x h = ap (λ (t : List ℕ). c ∷ t) (front-push n cells x (le-of-suc-le-suc h))
+
+pub front-drop : (n : ℕ) (cells : List ℕ) (k : ℕ) → drop k (front n cells) ≡ front (n - k) (drop k cells)
+unfolding front
+front-drop n cells zero = rw sub-zero
+front-drop zero cells (suc k) = rw zero-sub
+front-drop (suc n) [] (suc k) = rw suc-sub-suc (rw drop-nil at (front-drop n [] k))
+front-drop (suc n) (c ∷ cells) (suc k) = rw suc-sub-suc (front-drop n cells k)
+
+pub front-getD : (n : ℕ) (cells : List ℕ) (k : ℕ) → k < n → getD (front n cells) k 0 ≡ getD cells k 0
+unfolding front
+front-getD zero cells k h = absurd (not-suc-le-zero h)
+front-getD (suc n) [] zero h = refl
+front-getD (suc n) [] (suc k) h = front-getD n [] k (le-of-suc-le-suc h)
+front-getD (suc n) (c ∷ cells) zero h = refl
+front-getD (suc n) (c ∷ cells) (suc k) h = front-getD n cells k (le-of-suc-le-suc h)
+
+pub front-past : (n : ℕ) (cells : List ℕ) (k : ℕ) → n ≤ k → getD (front n cells) k 0 ≡ 0
+front-past n cells k h = List·getD-eq-default (front n cells) 0 (rw front-length h)
+
+pub front-out : (n : ℕ) (cells : List ℕ) (k : ℕ) → length cells ≤ k → getD (front n cells) k 0 ≡ 0
+unfolding front
+front-out zero cells k h = refl
+front-out (suc n) [] zero h = refl
+front-out (suc n) [] (suc k) h = front-out n [] k zero-le
+front-out (suc n) (c ∷ cells) zero h = absurd (not-suc-le-zero h)
+front-out (suc n) (c ∷ cells) (suc k) h = front-out n cells k (le-of-suc-le-suc h)
+
+-- the test that there are at most `size` items
+pub front-fits : (size n : ℕ) (cells : List ℕ) → n ≤ size → leb (length (front n cells)) size ≡ true
+front-fits size n cells h = rw (front-length, le-leb n size h)
+
+pub front-over : (size n : ℕ) (cells : List ℕ) → size < n → leb (length (front n cells)) size ≡ false
+front-over size n cells h = rw (front-length, lt-leb n size h)
+
+-- the items from the place i on: the cell there and those after it
+pub front-at : (n : ℕ) (cells : List ℕ) (i : ℕ) → i < n → drop i (front n cells) ≡ getD cells i 0 ∷ drop (i + 1) (front n cells)
+front-at n cells i h = rw (add-one, drop-cons (front n cells) i 0 (rw front-length h), front-getD n cells i h)
+
+pub front-end : (n : ℕ) (cells : List ℕ) (i : ℕ) → n ≤ i → drop i (front n cells) ≡ []
+front-end n cells i h = drop-of-length-le (front n cells) {i = i} (rw front-length h)
+
+-- the items of a queue and of batches: as many as the length says, and none of a fresh one
+pub itemsOf-length : (q : Queue) → length (itemsOf q) ≡ q .len
+unfolding itemsOf
+itemsOf-length q = front-length (q .len) (q .cells)
+
+pub itemsOf-fresh : itemsOf freshQueue ≡ []
+unfolding itemsOf
+itemsOf-fresh = refl
+
+pub batchesOf-length : (b : Batches) → length (batchesOf b) ≡ b .len
+unfolding batchesOf
+batchesOf-length b = front-length (b .len) (b .cells)
+
+pub batchesOf-fresh : batchesOf freshBatches ≡ []
+unfolding batchesOf
+batchesOf-fresh = refl
+
+-- pushed
+
+pub pushed-room : (size x : ℕ) (q : List ℕ) → length q < size → pushed size x q ≡ q ++ (x ∷ [])
+unfolding pushed
+pushed-room size x q h = rw (lt-ltb (length q) size h)
+
+pub pushed-full : (size x : ℕ) (q : List ℕ) → size ≤ length q → pushed size x q ≡ q
+unfolding pushed
+pushed-full size x q h = rw (le-ltb (length q) size h)
+
+pub pushed-length : (size x : ℕ) (q : List ℕ) → length q < size → length (pushed size x q) ≡ suc (length q)
+pushed-length size x q h = rw (pushed-room size x q h, length-append, add-one)
+
+pub pushed-bound : (size x : ℕ) (q : List ℕ) → length q ≤ size → length (pushed size x q) ≤ size
+pushed-bound size x q h = go (ltb (length q) size) refl
+  where
+    go : (b : Bool) → ltb (length q) size ≡ b → length (pushed size x q) ≤ size
+    go true e = rw (pushed-length size x q (ltb-true _ _ e)) (ltb-true _ _ e)
+    go false e = rw (pushed-full size x q (ltb-false _ _ e)) h
+
+-- the items that a store at the length makes, and those of a row with no room
+pub pushed-front-room : (size x n : ℕ) (cells : List ℕ) → length cells ≡ size → n < size → front (n + 1) (set cells n x) ≡ pushed size x (front n cells)
+pushed-front-room size x n cells e h =
+    let room : n < length cells = omega arith in
+    rw (pushed-room size x (front n cells) (rw front-length h), add-one, front-push n cells x room)
+
+pub pushed-front-full : (size x n : ℕ) (cells : List ℕ) → size ≤ n → front n cells ≡ pushed size x (front n cells)
+pushed-front-full size x n cells h = sym (pushed-full size x (front n cells) (rw front-length h))
+
+-- skipped
+
+pub skipped-fits : (size k : ℕ) (q : List ℕ) → length q ≤ size → skipped size k q ≡ drop k q
+unfolding skipped
+skipped-fits size k q h = rw (le-leb (length q) size h)
+
+pub skipped-over : (size k : ℕ) (q : List ℕ) → size < length q → skipped size k q ≡ q
+unfolding skipped
+skipped-over size k q h = rw (lt-leb (length q) size h)
+
+pub skipped-length : (size k : ℕ) (q : List ℕ) → length q ≤ size → length (skipped size k q) ≡ length q - k
+skipped-length size k q h = rw (skipped-fits size k q h, length-drop)
+
+-- the items of a row that has more than it may
+pub skipped-front-over : (size k n : ℕ) (cells : List ℕ) → size < n → front n cells ≡ skipped size k (front n cells)
+skipped-front-over size k n cells h = sym (skipped-over size k (front n cells) (rw front-length h))
+
+-- what is left of the items of a row that has no more than it may
+pub skipped-front-fits : (size k n : ℕ) (cells : List ℕ) → n ≤ size → skipped size k (front n cells) ≡ drop k (front n cells)
+skipped-front-fits size k n cells h = skipped-fits size k (front n cells) (rw front-length h)
+
+pub skipped-bound : (size k : ℕ) (q : List ℕ) → length q ≤ size → length (skipped size k q) ≤ size
+skipped-bound size k q h = rw (skipped-length size k q h) (omega arith)
+
+-- all
+
+pub all-append : (p : ℕ → Bool) (xs ys : List ℕ) → all p (xs ++ ys) ≡ (all p xs && all p ys)
+unfolding all
+all-append p [] ys = refl
+all-append p (x ∷ xs) ys = rw (all-append p xs ys, and-assoc)
+
+pub all-cong : (p q : ℕ → Bool) → ((x : ℕ) → p x ≡ q x) → (xs : List ℕ) → all p xs ≡ all q xs
+unfolding all
+all-cong p q e [] = refl
+all-cong p q e (x ∷ xs) = rw (e x, all-cong p q e xs)
+
+pub all-weaken : (p q : ℕ → Bool) → ((x : ℕ) → p x ≡ true → q x ≡ true) → (xs : List ℕ) → all p xs ≡ true → all q xs ≡ true
+unfolding all
+all-weaken p q w [] h = refl
+all-weaken p q w (x ∷ xs) h =
+    let (hx, hs) = and-eq-true-iff (p x) (all p xs) .0 h in
+    rw (w x hx, all-weaken p q w xs hs)
+
+pub all-take : (p : ℕ → Bool) (k : ℕ) (xs : List ℕ) → all p xs ≡ true → all p (take k xs) ≡ true
+unfolding all
+all-take p zero xs h = refl
+all-take p (suc k) [] h = refl
+all-take p (suc k) (x ∷ xs) h =
+    let (hx, hs) = and-eq-true-iff (p x) (all p xs) .0 h in
+    rw (hx, all-take p k xs hs)
+
+pub all-drop : (p : ℕ → Bool) (k : ℕ) (xs : List ℕ) → all p xs ≡ true → all p (drop k xs) ≡ true
+unfolding all
+all-drop p zero xs h = h
+all-drop p (suc k) [] h = refl
+all-drop p (suc k) (x ∷ xs) h = all-drop p k xs (and-eq-true-iff (p x) (all p xs) .0 h .1)
+
+pub all-getD : (p : ℕ → Bool) (xs : List ℕ) → all p xs ≡ true → (i : ℕ) → i < length xs → p (getD xs i 0) ≡ true
+unfolding all
+all-getD p [] h i l = absurd (not-suc-le-zero l)
+all-getD p (x ∷ xs) h zero l = and-eq-true-iff (p x) (all p xs) .0 h .0
+all-getD p (x ∷ xs) h (suc i) l = all-getD p xs (and-eq-true-iff (p x) (all p xs) .0 h .1) i (le-of-suc-le-suc l)
+
+pub all-pushed : (p : ℕ → Bool) (size x : ℕ) (q : List ℕ) → all p q ≡ true → p x ≡ true → all p (pushed size x q) ≡ true
+unfolding all
+all-pushed p size x q h hx = go (ltb (length q) size) refl
+  where
+    go : (b : Bool) → ltb (length q) size ≡ b → all p (pushed size x q) ≡ true
+    go true e = rw (pushed-room size x q (ltb-true _ _ e), all-append, h, hx)
+    go false e = rw (pushed-full size x q (ltb-false _ _ e)) h
+
+pub all-skipped : (p : ℕ → Bool) (size k : ℕ) (q : List ℕ) → all p q ≡ true → all p (skipped size k q) ≡ true
+all-skipped p size k q h = go (leb (length q) size) refl
+  where
+    go : (b : Bool) → leb (length q) size ≡ b → all p (skipped size k q) ≡ true
+    go true e = rw (skipped-fits size k q (leb-true _ _ e)) (all-drop p k q h)
+    go false e = rw (skipped-over size k q (leb-false _ _ e)) h
+
+pub all-held : (l : ℕ) (xs : List ℕ) → all (between 0 l) xs ≡ all (heldIn l) xs
+all-held l = all-cong (between 0 l) (heldIn l) (λ x. rw leb·zero)
+
+-- findFrom
+
+-- what a search from the place j that gives the place k says of the items: the i-th is x, where j + i is k, and none before it is
+abbrev Hit : ℕ → ℕ → List ℕ → ℕ → Type 0
+Hit x j xs k =
+    (i : ℕ) × (k ≡ j + i) × (i < length xs) × (getD xs i 0 ≡ x) × ((m : ℕ) → m < i → getD xs m 0 ≡ x → ⊥)
+
+findFrom-hit : (x j : ℕ) (xs : List ℕ) (k : ℕ) → findFrom x j xs ≡ At k → Hit x j xs k
+unfolding findFrom
+findFrom-hit x j [] k e = let z : _≡_ {A = ℕ} 0 1 = cc in absurd (omega arith)
+findFrom-hit x j (y ∷ ys) k e = go (findFrom-hit x (suc j) ys k) (eqb y x) refl
+  where
+    later : (i : ℕ) → (y ≡ x → ⊥) → ((m : ℕ) → m < i → getD ys m 0 ≡ x → ⊥) → (m : ℕ) → m < suc i → getD (y ∷ ys) m 0 ≡ x → ⊥
+    later i no-y no-ys zero h = no-y
+    later i no-y no-ys (suc m) h = no-ys m (le-of-suc-le-suc h)
+
+    go : (findFrom x (suc j) ys ≡ At k → Hit x (suc j) ys k) → (b : Bool) → eqb y x ≡ b → Hit x j (y ∷ ys) k
+    go ih true t =
+        let q : At j ≡ At k = rw t at e in
+        let z : j ≡ k = cc in
+        (0, omega arith, omega arith, eqb-true y x t, λ m h. absurd (not-suc-le-zero h))
+    go ih false t =
+        let r : Hit x (suc j) ys k = ih (rw t at e) in
+        (suc (r .0), omega (arith, r .1), omega (arith, r .2), r .3, later (r .0) (eqb-false y x t) (r .4))
+
+pub findFrom-bound : (x k : ℕ) (xs : List ℕ) → findFrom x 0 xs ≡ At k → k < length xs
+findFrom-bound x k xs e = let h = findFrom-hit x 0 xs k e in omega (arith, h .1, h .2)
+
+pub findFrom-item : (x k : ℕ) (xs : List ℕ) → findFrom x 0 xs ≡ At k → getD xs k 0 ≡ x
+findFrom-item x k xs e =
+    let h = findFrom-hit x 0 xs k e in
+    let p : k ≡ h .0 = omega (arith, h .1) in
+    rw p (h .3)
+
+pub findFrom-first : (x k : ℕ) (xs : List ℕ) → findFrom x 0 xs ≡ At k → (i : ℕ) → i < k → getD xs i 0 ≡ x → ⊥
+findFrom-first x k xs e i l = let h = findFrom-hit x 0 xs k e in h .4 i (omega (arith, h .1))
+
+pub findFrom-nothing : (x k : ℕ) (xs : List ℕ) → findFrom x k xs ≡ Nothing → (i : ℕ) → i < length xs → getD xs i 0 ≡ x → ⊥
+unfolding findFrom
+findFrom-nothing x k [] e i l = absurd (not-suc-le-zero l)
+findFrom-nothing x k (y ∷ ys) e i l = go (findFrom-nothing x (suc k) ys) (eqb y x) refl i l
+  where
+    go : (findFrom x (suc k) ys ≡ Nothing → (i : ℕ) → i < length ys → getD ys i 0 ≡ x → ⊥)
+        → (b : Bool) → eqb y x ≡ b → (i : ℕ) → i < suc (length ys) → getD (y ∷ ys) i 0 ≡ x → ⊥
+    go ih true t i l = let q : At k ≡ Nothing = rw t at e in let z : _≡_ {A = ℕ} 0 1 = cc in absurd (omega arith)
+    go ih false t zero l = eqb-false y x t
+    go ih false t (suc i) l = ih (rw t at e) i (le-of-suc-le-suc l)

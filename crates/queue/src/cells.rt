@@ -1,0 +1,57 @@
+// The loops over the first n of a row of cells, which both kinds of queue share.
+ghost use mathlib.Core.Path.{_≡_};
+ghost use Prim.Native.Nat.{_≤_};
+ghost use lib.ListN.{length, drop};
+ghost use Rattle.queue.specs.Items.{front, all, between, findFrom};
+use crate::Found;
+
+// Moves the first n cells down by k places, and gives how many of them are left.
+pub(crate) fn move_down(cells: &mut [u32], k: usize, n: usize) -> usize
+    requires { ⌜ n ≤ length (now cells) ⌝ }
+    ensures { λ r. ⌜ front r (now (cells .exit)) ≡ drop k (front n (now (cells .entry))) ⌝ }
+{
+    if n <= k {
+        return 0;
+    }
+    let left = n - k;
+    let mut to = 0;
+    while to < left {
+        cells[to] = cells[to + k];
+        to += 1;
+    }
+    left
+}
+
+// Whether each of the first n cells is from low to high.
+pub(crate) fn all_between(cells: &[u32], n: usize, low: u32, high: u32) -> bool
+    requires { ⌜ n ≤ length (now cells) ⌝ }
+    ensures { λ r. ⌜ r ≡ all (between low high) (front n (now (cells .entry))) ⌝ }
+{
+    let mut i = 0;
+    while i < n {
+        let x = cells[i];
+        if x < low {
+            return false;
+        }
+        if high < x {
+            return false;
+        }
+        i += 1;
+    }
+    true
+}
+
+// The place of the first of the first n cells that equals x.
+pub(crate) fn first_equal(cells: &[u32], n: usize, x: u32) -> Found
+    requires { ⌜ n ≤ length (now cells) ⌝ }
+    ensures { λ r. ⌜ r ≡ findFrom x 0 (front n (now (cells .entry))) ⌝ }
+{
+    let mut at = 0;
+    while at < n {
+        if cells[at] == x {
+            return Found::At(at);
+        }
+        at += 1;
+    }
+    Found::Nothing
+}
