@@ -1,0 +1,154 @@
+-- How many steps change anything since the last fault or append: each lowers the work left, which is at most L × (1 + 5 × W).
+use Prim.Native.Nat.{ℕ, zero, suc, _+_, _*_, _-_, _≤_, _<_}
+use mathlib.Core.Path.{_≡_, refl, sym, ap, ap₂, subst, subst⁻¹, _∙_}
+use mathlib.Core.Logic.{_⊎_, inl, inr, ⊎-elim}
+use mathlib.Core.List.{List, [], _∷_, _++_}
+use mathlib.Core.Bool.{Bool, true, false, cond, true≢false, false≢true}
+use native.Mathlib.Omega.{arith}
+use native.Mathlib.Nat.{mul-add, mul-one, mul-suc, mul-assoc, mul-comm}
+use lib.ListN.{length, getD, set, length-append}
+use Rattle.journal.specs.declared.Entry.{Entry}
+use Rattle.journal.specs.Cases.{true-or-false}
+use Rattle.rules.specs.View.{State, normal, fetching, completed, suspended}
+use Rattle.delivery.specs.World.{Place, World, noPlace, placeAt, withPlace, Step, step, run}
+use Rattle.delivery.specs.Same.{sameWorld}
+use Rattle.delivery.specs.SameLaws.{sameWorld-itself}
+use Rattle.delivery.specs.Statement.{isDone, begins, changes}
+use Rattle.delivery.specs.Invariant.{Inv, Reached, Queues, FetchingQueues, lastOf}
+use Rattle.delivery.specs.Measure.{ahead, busyOf, placeWork, main-work, worked-lowers}
+use Rattle.delivery.specs.Effects.{Mained, Work, stays, mains, works, Restarted, Facts, working, dropping, joining, starting, appending}
+use Rattle.delivery.specs.SteppedAll.{step-facts}
+use Rattle.delivery.specs.Worlds.{withPlace-count}
+use Rattle.delivery.specs.Reach.{read-in, few-in, reached-step}
+
+-- ------------------------------------------------------------------------
+-- a sum over places
+
+unfoldable pub total : (Place → ℕ) → List Place → ℕ
+total f [] = 0
+total f (p ∷ ps) = f p + total f ps
+
+total-set : (f : Place → ℕ) (ps : List Place) (w : ℕ) (p′ : Place) → w < length ps → total f (set ps w p′) + f (getD ps w noPlace) ≡ total f ps + f p′
+unfolding total
+total-set f [] w p′ h = absurd (omega arith)
+total-set f (p ∷ ps) zero p′ h = omega arith
+total-set f (p ∷ ps) (suc w) p′ h = omega (arith, total-set f ps w p′ (omega arith))
+
+total-le : (f g : Place → ℕ) (ps qs : List Place) → length ps ≡ length qs → ((w : ℕ) → w < length ps → f (getD ps w noPlace) ≤ g (getD qs w noPlace)) →
+    total f ps ≤ total g qs
+unfolding total
+total-le f g [] [] e h = omega arith
+total-le f g [] (q ∷ qs) e h = absurd (omega arith)
+total-le f g (p ∷ ps) [] e h = absurd (omega arith)
+total-le f g (p ∷ ps) (q ∷ qs) e h = omega (arith, h 0 (omega arith), total-le f g ps qs (omega arith) (λ w k. h (suc w) (omega arith)))
+
+total-bound : (f : Place → ℕ) (ps : List Place) (b : ℕ) → ((w : ℕ) → w < length ps → f (getD ps w noPlace) ≤ b) → total f ps ≤ b * length ps
+unfolding total
+total-bound f [] b h = omega arith
+total-bound f (p ∷ ps) b h = simp mul-suc (omega (arith, h 0 (omega arith), total-bound f ps b (λ w k. h (suc w) (omega arith))))
+
+-- ------------------------------------------------------------------------
+-- the work left in a world
+
+unfoldable pub workLeft : World → ℕ
+workLeft wd = (length (wd .journal) - wd .current) + total (placeWork (length (wd .journal)) (wd .current)) (wd .places)
+
+abbrev pub mostWork : World → ℕ
+mostWork wd = length (wd .journal) * (1 + 5 * length (wd .places))
+
+place-bound : (j : List Entry) (c w : ℕ) (p : Place) → Inv j c w p → c ≤ length j → placeWork (length j) c p ≤ 5 * length j
+place-bound j c w p inv read = omega (arith, state (p .view .state) refl, line (p .view .busy) refl)
+  where
+    state : (s : State) → p .view .state ≡ s → ahead (length j) c (p .view .state) ≤ length j
+    state normal e = let a : ahead (length j) c (p .view .state) ≡ length j - c = ap (ahead (length j) c) e in omega arith
+    state (fetching n end) e =
+        let a : ahead (length j) c (p .view .state) ≡ length j - n + 1 = ap (ahead (length j) c) e in
+        let k : FetchingQueues j c w (p .view) n end = subst (Queues j c w (p .view)) e (inv .queues) in
+        omega (arith, k .behind, k .order, k .read)
+    state (completed end) e = let a : ahead (length j) c (p .view .state) ≡ length j - end = ap (ahead (length j) c) e in omega arith
+    state suspended e = let a : ahead (length j) c (p .view .state) ≡ length j - c = ap (ahead (length j) c) e in omega arith
+
+    line : (b : Bool) → p .view .busy ≡ b → length j - p .view .sent + busyOf (p .view .busy) ≤ length j
+    line true e = let a : busyOf (p .view .busy) ≡ 1 = ap busyOf e in omega (arith, inv .busySent e, inv .sentIn)
+    line false e = let a : busyOf (p .view .busy) ≡ 0 = ap busyOf e in omega arith
+
+pub workLeft-most : (wd : World) → Reached wd → workLeft wd ≤ mostWork wd
+unfolding workLeft
+workLeft-most wd r =
+    let l : ℕ = length (wd .journal) in
+    let n : ℕ = length (wd .places) in
+    let most : l * (1 + 5 * n) ≡ l + 5 * l * n = mul-add l 1 (5 * n) ∙ ap₂ (λ a b. a + b) (mul-one l) (sym (mul-assoc l 5 n) ∙ ap (λ x. x * n) (mul-comm l 5)) in
+    omega (
+      arith,
+      total-bound (placeWork l (wd .current)) (wd .places) (5 * l) (λ w h. place-bound (wd .journal) (wd .current) w (placeAt w wd) (r .each w h) (read-in wd r)),
+    )
+
+-- ------------------------------------------------------------------------
+-- a piece of work lowers it
+
+pub work-lowers : (wd wd′ : World) → Reached wd → Work wd wd′ → (wd′ ≡ wd) ⊎ (workLeft wd′ < workLeft wd)
+unfolding workLeft
+work-lowers wd wd′ r (stays e) = inl e
+work-lowers wd wd′ r (mains m) =
+    let l : ℕ = length (wd .journal) in
+    let len : length (wd′ .journal) ≡ length (wd .journal) = ap length (m .journal) in
+    let each : (w : ℕ) → w < length (wd′ .places) →
+    placeWork (length (wd′ .journal)) (wd′ .current) (placeAt w wd′) ≤ placeWork (length (wd .journal)) (wd .current) (placeAt w wd)
+    = λ w h.
+    let k : w < length (wd .places) = omega (arith, m .count) in
+    subst⁻¹ (λ n. n ≤ placeWork (length (wd .journal)) (wd .current) (placeAt w wd))
+    (λ i. placeWork (length (m .journal i)) (m .current i) (m .each w k i))
+    (main-work (wd .journal) (length (wd .journal)) (wd .current) w (placeAt w wd) (r .each w k) (m .below) refl) in
+    inr
+    (omega (
+      arith,
+      m .below,
+      m .current,
+      total-le (placeWork (length (wd′ .journal)) (wd′ .current)) (placeWork (length (wd .journal)) (wd .current)) (wd′ .places) (wd .places) (m .count) each,
+    ))
+work-lowers wd wd′ r (works w h p′ work e s) =
+    inr
+    (subst⁻¹ (λ x. workLeft x < workLeft wd) e
+    (omega (
+      arith,
+      total-set (placeWork (length (wd .journal)) (wd .current)) (wd .places) w p′ h,
+      worked-lowers (wd .journal) (wd .current) (wd .limit) w (placeAt w wd) p′ (read-in wd r) (few-in wd r) (r .each w h) work,
+    )))
+
+-- ------------------------------------------------------------------------
+-- what a step leaves as it was
+
+-- a step that is neither a fault nor an append leaves the journal and the number of windows
+pub work-most : (wd wd′ : World) → Work wd wd′ → mostWork wd′ ≡ mostWork wd
+work-most wd wd′ (stays e) = ap mostWork e
+work-most wd wd′ (mains m) = ap₂ (λ j n. length j * (1 + 5 * n)) (m .journal) (m .count)
+work-most wd wd′ (works w h p′ work e s) = ap mostWork e ∙ ap (λ n. length (wd .journal) * (1 + 5 * n)) (withPlace-count w p′ wd)
+
+-- ------------------------------------------------------------------------
+-- the count
+
+-- the count so far and the work left are together at most L × (1 + 5 × W)
+pub changes-bound : (n : ℕ) (wd : World) (ss : List Step) → Reached wd → n + workLeft wd ≤ mostWork wd → changes n wd ss ≤ mostWork (run wd ss)
+unfolding changes run
+changes-bound n wd [] r h = omega arith
+changes-bound n wd (s ∷ ss) r h = changes-bound _ (step s wd .world) ss (reached-step wd s r) (by (step-facts wd (r .inShape) s))
+  where
+    anew : begins s (step s wd .reply) ≡ true →
+        cond (begins s (step s wd .reply)) 0 (cond (sameWorld wd (step s wd .world)) n (suc n)) + workLeft (step s wd .world) ≤ mostWork (step s wd .world)
+    anew b = simp b (omega (arith, workLeft-most (step s wd .world) (reached-step wd s r)))
+
+    counted : begins s (step s wd .reply) ≡ false → Work wd (step s wd .world) → (t : Bool) → sameWorld wd (step s wd .world) ≡ t →
+        (step s wd .world ≡ wd) ⊎ (workLeft (step s wd .world) < workLeft wd) →
+        cond (begins s (step s wd .reply)) 0 (cond (sameWorld wd (step s wd .world)) n (suc n)) + workLeft (step s wd .world) ≤ mostWork (step s wd .world)
+    counted quiet work t same (inl e) =
+        let itself : sameWorld wd (step s wd .world) ≡ true = ap (sameWorld wd) e ∙ sameWorld-itself wd in
+        simp (quiet, itself) (omega (arith, ap workLeft e, work-most wd (step s wd .world) work))
+    counted quiet work true same (inr l) = simp (quiet, same) (omega (arith, work-most wd (step s wd .world) work))
+    counted quiet work false same (inr l) = simp (quiet, same) (omega (arith, work-most wd (step s wd .world) work))
+
+    by : Facts s wd → cond (begins s (step s wd .reply)) 0 (cond (sameWorld wd (step s wd .world)) n (suc n)) + workLeft (step s wd .world) ≤ mostWork (step s wd .world)
+    by (working quiet work) = counted quiet work (sameWorld wd (step s wd .world)) refl (work-lowers wd (step s wd .world) r work)
+    by (dropping w is done k e sh) = anew (ap (λ x. begins x (step s wd .reply)) is ∙ done)
+    by (joining w is done k away e sh) = anew (ap (λ x. begins x (step s wd .reply)) is ∙ done)
+    by (starting b is done m) = anew (ap (λ x. begins x (step s wd .reply)) is ∙ done)
+    by (appending e is done k same) = anew (ap (λ x. begins x (step s wd .reply)) is ∙ done)

@@ -1,0 +1,90 @@
+-- Runs computed on the rules.
+use Prim.Native.Nat.{ℕ}
+use mathlib.Core.Path.{_≡_, refl}
+use mathlib.Core.List.{List, [], _∷_}
+use lib.ListN.{replicate}
+use Rattle.journal.specs.declared.Entry.{Entry}
+use Rattle.journal.specs.Entry.{entry4, numbersOf, entriesOf, entryAt, hasWindow, isFor}
+use Rattle.queue.specs.Items.{all}
+use Rattle.window.specs.Record.{raceAfter, racesAfter, recordAfter, takeEntry, takeNumbers}
+use Rattle.rules.specs.declared.Term.{Term}
+use Rattle.rules.specs.View.{PlayerView}
+use Rattle.rules.specs.Shape.{windowShape, allWindows, shape}
+use Rattle.rules.specs.Window.{check, enqueue, mainAt, fetched, catchIn, catchAt, readyIn, batchOf, launched, sendAt, writtenAt, struck, ackAt, dropAt, joinAt}
+use Rattle.rules.specs.Rules.{operate, mapWindows, mainRule, catchRule, writtenRule, ackRule, dropRule, joinRule, sendRule, areReports, least, startRule}
+use Rattle.delivery.specs.World.{Place, World, placeAt, withViews, withPlayer, onLine, takeFront, Step, main, catch, written, send, take, ack, drop, join, start, Reply, answered, empty, step, run, opened}
+
+-- the replies of a list of steps
+unfoldable pub replies : World → List Step → List Reply
+replies wd [] = []
+replies wd (s ∷ ss) = step s wd .reply ∷ replies (step s wd .world) ss
+
+-- what a window shows at the end: last and count
+pub record Shown : Type 0 where
+  pub last : ℕ
+  pub count : ℕ
+
+abbrev pub shownAt : ℕ → World → Shown
+shownAt w wd = record { last = placeAt w wd .record′ .last .0; count = placeAt w wd .record′ .count }
+
+abbrev pub nobody : PlayerView
+nobody = record { limit = 0; current = 0; windows = [] }
+
+-- a run's beginning: W windows, batch limit 2
+abbrev pub openedWith : List Entry → ℕ → World
+openedWith j count = opened j (startRule (numbersOf j) count 2 (replicate count 0) nobody)
+
+abbrev pub term : ℕ → Term
+term n = record { 0 = n }
+
+abbrev pub room : List ℕ
+room = replicate 10 0
+
+-- the journal of document 01's run: 1 3 POST 1 50400; 2 1 ODDS 1 350; 3 2 CLOSE 1 0
+abbrev pub afternoon : List Entry
+afternoon = entry4 3 1 1 50400 ∷ entry4 1 2 1 350 ∷ entry4 2 3 1 0 ∷ []
+
+abbrev pub afternoonSteps : List Step
+afternoonSteps =
+    main 1 ∷ send 0 room ∷ take 0 ∷ drop 0 ∷ main 2 ∷ join 0 ∷ send 0 room ∷ catch 0 (term 2) 2 ∷ send 0 room ∷ take 0 ∷ []
+
+-- (a) the run of document 01: its answers, and then the windows' last and count
+pub record RunA : Type 0 where
+  pub answers : replies (openedWith afternoon 2) afternoonSteps ≡
+      answered 0 ∷ answered 0 ∷ answered 0 ∷ answered 0 ∷ answered 0 ∷ answered 0 ∷ answered 7 ∷ answered 0 ∷ answered 0 ∷ answered 0 ∷ []
+  pub window0 : shownAt 0 (run (openedWith afternoon 2) afternoonSteps) ≡ record { last = 2; count = 2 }
+  pub window1 : shownAt 1 (run (openedWith afternoon 2) afternoonSteps) ≡ record { last = 0; count = 0 }
+
+pub row-a : RunA
+unfolding replies run step opened startRule areReports least mainRule catchRule writtenRule ackRule dropRule joinRule sendRule operate mapWindows shape windowShape allWindows all check enqueue mainAt fetched catchIn catchAt readyIn batchOf launched sendAt writtenAt struck ackAt dropAt joinAt withViews withPlayer onLine takeFront raceAfter racesAfter recordAfter takeEntry takeNumbers numbersOf entriesOf entryAt hasWindow isFor
+row-a = record { answers = refl; window0 = refl; window1 = refl }
+
+-- a line drops between taking the last entry of a batch and its ack: the ack is refused and stays, the window joins with what it has taken, the
+-- line is empty both ways, and the next batch goes on after it
+abbrev pub dropSteps : List Step
+dropSteps =
+    main 1 ∷ main 2 ∷ send 0 room ∷ take 0 ∷ take 0 ∷ drop 0 ∷ ack 0 ∷ join 0 ∷ ack 0 ∷ main 3 ∷ catch 0 (term 2) 3 ∷ written 0 (term 2) ∷ []
+
+pub record DropBeforeAck : Type 0 where
+  pub answers : replies (openedWith afternoon 2) dropSteps ≡
+      answered 0 ∷ answered 0 ∷ answered 0 ∷ answered 0 ∷ answered 0 ∷ answered 0 ∷ answered 3 ∷ answered 0 ∷ empty ∷ answered 0 ∷ answered 4 ∷ answered 8 ∷ []
+  pub window0 : shownAt 0 (run (openedWith afternoon 2) dropSteps) ≡ record { last = 2; count = 2 }
+  pub acknowledged : placeAt 0 (run (openedWith afternoon 2) dropSteps) .view .acked ≡ 2
+
+pub drop-before-ack : DropBeforeAck
+unfolding replies run step opened startRule areReports least mainRule catchRule writtenRule ackRule dropRule joinRule sendRule operate mapWindows shape windowShape allWindows all check enqueue mainAt fetched catchIn catchAt readyIn batchOf launched sendAt writtenAt struck ackAt dropAt joinAt withViews withPlayer onLine takeFront raceAfter racesAfter recordAfter takeEntry takeNumbers numbersOf entriesOf entryAt hasWindow isFor
+drop-before-ack = record { answers = refl; window0 = refl; acknowledged = refl }
+
+-- the player starts anew in the middle of a batch: the second entry was on the line and is sent again, and taken once
+abbrev pub startSteps : List Step
+startSteps =
+    main 1 ∷ main 2 ∷ send 0 room ∷ take 0 ∷ start 2 ∷ take 0 ∷ main 1 ∷ main 2 ∷ send 0 room ∷ take 0 ∷ ack 0 ∷ []
+
+pub record StartInBatch : Type 0 where
+  pub answers : replies (openedWith afternoon 2) startSteps ≡
+      answered 0 ∷ answered 0 ∷ answered 0 ∷ answered 0 ∷ answered 0 ∷ empty ∷ answered 0 ∷ answered 0 ∷ answered 0 ∷ answered 0 ∷ answered 0 ∷ []
+  pub window0 : shownAt 0 (run (openedWith afternoon 2) startSteps) ≡ record { last = 2; count = 2 }
+
+pub start-in-batch : StartInBatch
+unfolding replies run step opened startRule areReports least mainRule catchRule writtenRule ackRule dropRule joinRule sendRule operate mapWindows shape windowShape allWindows all check enqueue mainAt fetched catchIn catchAt readyIn batchOf launched sendAt writtenAt struck ackAt dropAt joinAt withViews withPlayer onLine takeFront raceAfter racesAfter recordAfter takeEntry takeNumbers numbersOf entriesOf entryAt hasWindow isFor
+start-in-batch = record { answers = refl; window0 = refl }

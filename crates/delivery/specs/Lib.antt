@@ -1,0 +1,24 @@
+-- Demand 3: a world of player, windows and lines, its steps, and what holds of every list of steps.
+pub mod World
+pub mod Same
+pub mod Statement
+pub mod Examples
+pub mod Invariant
+pub mod KeepMain
+pub mod KeepCatch
+pub mod Lines
+pub mod KeepSend
+pub mod KeepLine
+pub mod KeepFault
+pub mod Worlds
+pub mod Effects
+pub mod Stepped
+pub mod SteppedLine
+pub mod SteppedAll
+pub mod Reach
+pub mod SameLaws
+pub mod Measure
+pub mod Bound
+pub mod Joined
+pub mod Finish
+pub mod Demand3

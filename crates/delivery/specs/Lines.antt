@@ -1,0 +1,58 @@
+-- Laws of the lines: what a batch adds to them.
+use Prim.Native.Nat.{ℕ}
+use mathlib.Core.Path.{_≡_, refl, ap, _∙_}
+use mathlib.Core.List.{List, [], _∷_, _++_, map}
+use mathlib.Core.Bool.{Bool, true, false, cond, true≢false}
+use Rattle.journal.specs.declared.Entry.{Entry}
+use Rattle.journal.specs.Entry.{placedAt}
+use Rattle.journal.specs.Due.{lastOr}
+use Rattle.rules.specs.declared.Term.{Term}
+use Rattle.rules.specs.Shape.{isEmpty}
+use Rattle.delivery.specs.World.{Sent, Ack, onLine}
+use Rattle.delivery.specs.Invariant.{lineEntries, endsOf, LineTerms, BackTerms}
+
+pub lastOr-some : (a b : ℕ) (xs : List ℕ) → isEmpty xs ≡ false → lastOr a xs ≡ lastOr b xs
+lastOr-some a b [] e = absurd (true≢false e)
+lastOr-some a b (x ∷ xs) e = refl
+
+-- ------------------------------------------------------------------------
+-- append
+
+pub lineTerms-append : (t : Term) (l m : List Sent) → LineTerms t l → LineTerms t m → LineTerms t (l ++ m)
+lineTerms-append t [] m h k = k
+lineTerms-append t (s ∷ l) m h k = (h .0, lineTerms-append t l m (h .1) k)
+
+pub backTerms-append : (t : Term) (l m : List Ack) → BackTerms t l → BackTerms t m → BackTerms t (l ++ m)
+backTerms-append t [] m h k = k
+backTerms-append t (s ∷ l) m h k = (h .0, backTerms-append t l m (h .1) k)
+
+endsOf-cons : (s : Sent) (l m : List Sent) (b : Bool) → endsOf (l ++ m) ≡ endsOf l ++ endsOf m →
+    cond b (s .placed .index ∷ endsOf (l ++ m)) (endsOf (l ++ m)) ≡ cond b (s .placed .index ∷ endsOf l) (endsOf l) ++ endsOf m
+endsOf-cons s l m true e = ap (λ x. s .placed .index ∷ x) e
+endsOf-cons s l m false e = e
+
+pub endsOf-append : (l m : List Sent) → endsOf (l ++ m) ≡ endsOf l ++ endsOf m
+unfolding endsOf
+endsOf-append [] m = refl
+endsOf-append (s ∷ l) m = endsOf-cons s l m (s .ends) (endsOf-append l m)
+
+-- ------------------------------------------------------------------------
+-- onLine
+
+pub onLine-entries : (j : List Entry) (t : Term) (xs : List ℕ) → lineEntries (onLine j t xs) ≡ map (placedAt j) xs
+unfolding onLine
+onLine-entries j t [] = refl
+onLine-entries j t (x ∷ []) = refl
+onLine-entries j t (x ∷ y ∷ xs) = ap (λ l. placedAt j x ∷ l) (onLine-entries j t (y ∷ xs))
+
+pub onLine-terms : (j : List Entry) (t : Term) (xs : List ℕ) → LineTerms t (onLine j t xs)
+unfolding onLine
+onLine-terms j t [] = tt
+onLine-terms j t (x ∷ []) = (refl, tt)
+onLine-terms j t (x ∷ y ∷ xs) = (refl, onLine-terms j t (y ∷ xs))
+
+pub onLine-ends : (j : List Entry) (t : Term) (xs : List ℕ) → isEmpty xs ≡ false → endsOf (onLine j t xs) ≡ lastOr 0 xs ∷ []
+unfolding onLine endsOf
+onLine-ends j t [] e = absurd (true≢false e)
+onLine-ends j t (x ∷ []) e = refl
+onLine-ends j t (x ∷ y ∷ xs) e = onLine-ends j t (y ∷ xs) refl

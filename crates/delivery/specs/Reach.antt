@@ -1,0 +1,125 @@
+-- Every world of a run is reached: the beginning is, and each step keeps it.
+use Prim.Native.Nat.{ℕ, zero, suc, _%_, _≤_, _<_}
+use mathlib.Core.Path.{_≡_, refl, sym, ap, ap₂, subst, subst⁻¹, _∙_}
+use mathlib.Core.Logic.{_⊎_, inl, inr, ⊎-elim, _≢_}
+use mathlib.Core.List.{List, [], _∷_, _++_, map}
+use mathlib.Core.Bool.{Bool, true, false}
+use native.Mathlib.Omega.{arith}
+use lib.ListN.{length}
+use lib.Dec.{eqb, leb}
+use borrow.Author.Tests.{leb-true}
+use Rattle.journal.specs.declared.Entry.{Entry}
+use Rattle.journal.specs.Cases.{eq-or-ne, and-right}
+use Rattle.journal.specs.Entry.{numbersOf, countOf}
+use Rattle.journal.specs.EntryLaws.{entriesOf-append, entriesOf-numbersOf, numbersOf-length}
+use Rattle.rules.specs.Shape.{shape}
+use Rattle.rules.specs.Shaped.{Shaped, shaped}
+use Rattle.rules.specs.Kept.{append-keeps}
+use Rattle.delivery.specs.World.{Place, World, placeAt, numbersIn, playerIn, withView, withPlace, cleared, Step, step, run}
+use Rattle.delivery.specs.Invariant.{Inv, Reached, lastOf}
+use Rattle.delivery.specs.KeepMain.{keep-main}
+use Rattle.delivery.specs.KeepCatch.{keep-catch}
+use Rattle.delivery.specs.KeepSend.{keep-send}
+use Rattle.delivery.specs.KeepLine.{keep-written, keep-ack, keep-take}
+use Rattle.delivery.specs.KeepFault.{keep-drop, keep-join, keep-start, keep-append}
+use Rattle.delivery.specs.Worlds.{count-in, withPlace-here, withPlace-other, withPlace-count}
+use Rattle.delivery.specs.Effects.{Worked, caught, sent, written, took, acked, Mained, Work, stays, mains, works, Restarted, Facts, working, dropping, joining, starting, appending}
+use Rattle.delivery.specs.SteppedAll.{step-facts}
+
+-- ------------------------------------------------------------------------
+-- what the shape says of a reached world
+
+pub read-in : (wd : World) → Reached wd → wd .current ≤ length (wd .journal)
+read-in wd r = omega (arith, shaped (numbersIn wd) (playerIn wd) (r .inShape) .currentIn, count-in wd)
+
+pub few-in : (wd : World) → Reached wd → length (wd .journal) ≤ 65535
+few-in wd r =
+    let whole : leb (countOf (numbersIn wd)) 65535 ≡ true
+    = and-right (eqb (length (numbersIn wd) % 4) 0) (leb (countOf (numbersIn wd)) 65535) (shaped (numbersIn wd) (playerIn wd) (r .inShape) .journal) in
+    omega (arith, leb-true (countOf (numbersIn wd)) 65535 whole, count-in wd)
+
+-- ------------------------------------------------------------------------
+-- one place
+
+pub keep-worked : (j : List Entry) (c limit w : ℕ) (p p′ : Place) → c ≤ length j → length j ≤ 65535 → Inv j c w p → Worked j limit w p p′ → Inv j c w p′
+keep-worked j c limit w p p′ read few inv (caught t i k e) = subst⁻¹ (Inv j c w) e (keep-catch j c w p inv t i k)
+keep-worked j c limit w p p′ read few inv (sent size out e) = subst⁻¹ (Inv j c w) e (keep-send j c w p inv (out .here) read limit size out .inv)
+keep-worked j c limit w p p′ read few inv (written t off e) = subst⁻¹ (Inv j c w) e (keep-written j c w p inv t off)
+keep-worked j c limit w p p′ read few inv (took s rest front e) = subst⁻¹ (Inv j c w) e (keep-take j c w p inv few s rest front)
+keep-worked j c limit w p p′ read few inv (acked a rest front taken e) = subst⁻¹ (Inv j c w) e (keep-ack j c w p inv a rest front taken)
+
+-- ------------------------------------------------------------------------
+-- one place of a world replaced
+
+replaced : (wd wd′ : World) (w : ℕ) (p′ : Place) → Reached wd → w < length (wd .places) → wd′ ≡ withPlace w p′ wd →
+    shape (numbersIn wd′) (playerIn wd′) ≡ true → Inv (wd .journal) (wd .current) w p′ → Reached wd′
+replaced wd wd′ w p′ r h e s inv =
+    subst⁻¹ Reached e
+    (record {
+      inShape = subst (λ x. shape (numbersIn x) (playerIn x) ≡ true) e s;
+      each = λ v k.
+          ⊎-elim
+          (λ (same : v ≡ w).
+          subst⁻¹ (λ v. Inv (wd .journal) (wd .current) v (placeAt v (withPlace w p′ wd))) same
+          (subst⁻¹ (Inv (wd .journal) (wd .current) w) (withPlace-here w p′ wd h) inv))
+          (λ (other : v ≡ w → ⊥).
+          subst⁻¹ (Inv (wd .journal) (wd .current) v) (withPlace-other w v p′ wd other) (r .each v (omega (arith, withPlace-count w p′ wd))))
+          (eq-or-ne v w);
+    })
+
+-- ------------------------------------------------------------------------
+-- each kind of step
+
+reached-work : (wd wd′ : World) → Reached wd → Work wd wd′ → Reached wd′
+reached-work wd wd′ r (stays e) = subst⁻¹ Reached e r
+reached-work wd wd′ r (mains m) = record {
+  inShape = m .shaped;
+  each = λ w h.
+      let h′ : w < length (wd .places) = omega (arith, m .count) in
+      subst⁻¹ (λ j. Inv j (wd′ .current) w (placeAt w wd′)) (m .journal)
+      (subst⁻¹ (λ c. Inv (wd .journal) c w (placeAt w wd′)) (m .current)
+      (subst⁻¹ (Inv (wd .journal) (suc (wd .current)) w) (m .each w h′) (keep-main (wd .journal) (wd .current) w (placeAt w wd) (r .each w h′))));
+}
+reached-work wd wd′ r (works w h p′ work e s) =
+    replaced wd wd′ w p′ r h e s (keep-worked (wd .journal) (wd .current) (wd .limit) w (placeAt w wd) p′ (read-in wd r) (few-in wd r) (r .each w h) work)
+
+reached-restart : (wd wd′ : World) → Reached wd → Restarted wd wd′ → Reached wd′
+reached-restart wd wd′ r m = record {
+  inShape = m .shaped;
+  each = λ w h.
+      let h′ : w < length (wd .places) = omega (arith, m .count) in
+      subst⁻¹ (λ j. Inv j (wd′ .current) w (placeAt w wd′)) (m .journal)
+      (subst⁻¹ (Inv (wd .journal) (wd′ .current) w) (m .each w h′)
+      (keep-start (wd .journal) (wd .current) (wd′ .current) w (placeAt w wd) (r .each w h′) (m .least w h′)));
+}
+
+numbersOf-append : (j : List Entry) (e : Entry) → numbersOf (j ++ (e ∷ [])) ≡ numbersOf j ++ numbersOf (e ∷ [])
+unfolding numbersOf
+numbersOf-append [] e = refl
+numbersOf-append (x ∷ j) e = ap (λ l. x .set ∷ x .kind ∷ x .race ∷ x .value ∷ l) (numbersOf-append j e)
+
+reached-append : (wd wd′ : World) (e : Entry) → Reached wd → length (wd .journal) < 65535 →
+    wd′ ≡ record { journal = wd .journal ++ (e ∷ []); limit = wd .limit; current = wd .current; places = wd .places } → Reached wd′
+reached-append wd wd′ e r h is =
+    subst⁻¹ Reached is
+    (record {
+      inShape =
+          ap (λ ns. shape ns (playerIn wd)) (numbersOf-append (wd .journal) e)
+          ∙ append-keeps (numbersIn wd) e (playerIn wd) (r .inShape) (omega (arith, count-in wd));
+      each = λ w k. keep-append (wd .journal) e (wd .current) w (placeAt w wd) (read-in wd r) (r .each w k);
+    })
+
+pub reached-step : (wd : World) (s : Step) → Reached wd → Reached (step s wd .world)
+reached-step wd s r = by (step-facts wd (r .inShape) s)
+  where
+    by : Facts s wd → Reached (step s wd .world)
+    by (working quiet work) = reached-work wd _ r work
+    by (dropping w is done h e sh) = replaced wd _ w _ r h e sh (keep-drop (wd .journal) (wd .current) w (placeAt w wd) (r .each w h))
+    by (joining w is done h away e sh) = replaced wd _ w _ r h e sh (keep-join (wd .journal) (wd .current) w (placeAt w wd) (r .each w h) away)
+    by (starting b is done m) = reached-restart wd _ r m
+    by (appending e is done h same) = reached-append wd _ e r h same
+
+pub reached-run : (wd : World) (ss : List Step) → Reached wd → Reached (run wd ss)
+unfolding run
+reached-run wd [] r = r
+reached-run wd (s ∷ ss) r = reached-run (step s wd .world) ss (reached-step wd s r)

@@ -1,0 +1,76 @@
+-- Whether two worlds look the same: the player, the records and the lines, and nothing else. Each test decides equality.
+use Prim.Native.Nat.{ℕ}
+use mathlib.Core.List.{List, [], _∷_}
+use mathlib.Core.Bool.{Bool, true, false, not, _&&_}
+use lib.Dec.{eqb}
+use Rattle.journal.specs.declared.Entry.{Entry}
+use Rattle.journal.specs.Entry.{Placed}
+use Rattle.window.specs.declared.Race.{Race}
+use Rattle.window.specs.declared.Record.{Record}
+use Rattle.rules.specs.View.{State, normal, fetching, completed, suspended, WindowView}
+use Rattle.delivery.specs.World.{Sent, Ack, Place, World}
+
+abbrev pub sameBool : Bool → Bool → Bool
+sameBool true b = b
+sameBool false b = not b
+
+unfoldable pub sameList : {A : Type 0} → (A → A → Bool) → List A → List A → Bool
+sameList f [] [] = true
+sameList f [] (b ∷ ys) = false
+sameList f (a ∷ xs) [] = false
+sameList f (a ∷ xs) (b ∷ ys) = f a b && sameList f xs ys
+
+abbrev pub sameState : State → State → Bool
+sameState normal normal = true
+sameState normal (fetching n e) = false
+sameState normal (completed e) = false
+sameState normal suspended = false
+sameState (fetching n e) normal = false
+sameState (fetching n e) (fetching m f) = eqb n m && eqb e f
+sameState (fetching n e) (completed f) = false
+sameState (fetching n e) suspended = false
+sameState (completed e) normal = false
+sameState (completed e) (fetching m f) = false
+sameState (completed e) (completed f) = eqb e f
+sameState (completed e) suspended = false
+sameState suspended normal = false
+sameState suspended (fetching n e) = false
+sameState suspended (completed e) = false
+sameState suspended suspended = true
+
+unfoldable pub sameWindow : WindowView → WindowView → Bool
+sameWindow a b =
+    eqb (a .term .0) (b .term .0)
+    && (eqb (a .acked) (b .acked)
+    && (eqb (a .sent) (b .sent)
+    && (sameBool (a .busy) (b .busy)
+    && (sameList eqb (a .batches) (b .batches)
+    && (sameList eqb (a .normalQueue) (b .normalQueue)
+    && (sameList eqb (a .catchQueue) (b .catchQueue) && sameState (a .state) (b .state)))))))
+
+unfoldable pub sameRace : Race → Race → Bool
+sameRace a b = eqb (a .off) (b .off) && (eqb (a .price) (b .price) && sameBool (a .closed) (b .closed))
+
+unfoldable pub sameRecord : Record → Record → Bool
+sameRecord a b = eqb (a .last .0) (b .last .0) && (eqb (a .count) (b .count) && sameList sameRace (a .races) (b .races))
+
+unfoldable pub sameEntry : Entry → Entry → Bool
+sameEntry a b = eqb (a .set) (b .set) && (eqb (a .kind) (b .kind) && (eqb (a .race) (b .race) && eqb (a .value) (b .value)))
+
+unfoldable pub sameSent : Sent → Sent → Bool
+sameSent a b =
+    eqb (a .placed .index) (b .placed .index)
+    && (sameEntry (a .placed .entry) (b .placed .entry) && (eqb (a .term .0) (b .term .0) && sameBool (a .ends) (b .ends)))
+
+unfoldable pub sameAck : Ack → Ack → Bool
+sameAck a b = eqb (a .term .0) (b .term .0) && eqb (a .index) (b .index)
+
+-- a place but for the history of what was taken
+unfoldable pub samePlace : Place → Place → Bool
+samePlace a b =
+    sameWindow (a .view) (b .view)
+    && (sameRecord (a .record′) (b .record′) && (sameList sameSent (a .line) (b .line) && sameList sameAck (a .back) (b .back)))
+
+-- the player's state, the records and the lines
+unfoldable pub sameWorld : World → World → Bool
+sameWorld a b = eqb (a .limit) (b .limit) && (eqb (a .current) (b .current) && sameList samePlace (a .places) (b .places))

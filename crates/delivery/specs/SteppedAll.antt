@@ -1,0 +1,152 @@
+-- The steps that reach every window: Main, Start and an append; and all steps together.
+use Prim.Native.Nat.{ℕ, zero, suc, _+_, _≤_, _<_}
+use mathlib.Core.Path.{_≡_, refl, sym, ap, ap₂, subst, subst⁻¹, subst₂, _∙_}
+use mathlib.Core.Logic.{_⊎_, inl, inr, ⊎-elim}
+use mathlib.Core.List.{List, [], _∷_, _++_, map}
+use mathlib.Core.Bool.{Bool, true, false, cond, _||_, false≢true}
+use native.Mathlib.Omega.{arith}
+use native.Mathlib.Numerals.{add-one}
+use borrow.Author.Tests.{eq-eqb, ne-eqb, lt-ltb, le-ltb, lt-leb, ltb-true}
+use lib.ListN.{length, getD, set, length-map, List·getD-map}
+use lib.Dec.{eqb, ltb, leb}
+use Rattle.journal.specs.declared.Entry.{Entry}
+use Rattle.journal.specs.Cases.{eq-or-ne, le-or-lt, true-or-false}
+use Rattle.journal.specs.Entry.{entriesOf}
+use Rattle.rules.specs.declared.Term.{Term}
+use Rattle.rules.specs.View.{WindowView, PlayerView}
+use Rattle.rules.specs.Shape.{shape}
+use Rattle.rules.specs.Window.{isSuspended, wanted, mainAt, fetched, batchOf, launched, freed, acknowledged, dropped, joined, started}
+use Rattle.rules.specs.Rules.{Outcome, windowAt, withWindow, mainRule, catchRule, writtenRule, ackRule, dropRule, joinRule, sendRule, least, startRule}
+use Rattle.rules.specs.Turns.{Caught, SentOut, WrittenOff, AckTaken}
+use Rattle.rules.specs.Laws.{Operated, catchRule-refuses, catchRule-done, sendRule-refuses, sendRule-done, writtenRule-refuses, writtenRule-done, ackRule-refuses, ackRule-done, dropRule-refuses, dropRule-done, joinRule-refuses, joinRule-done, MainDone, mainRule-done, mainRule-refuses, mainNext-at, mainRule-count}
+use Rattle.rules.specs.Starts.{StartDone, startRule-done, startRule-refuses, startNext-at, least-le}
+use Rattle.rules.specs.Kept.{main-keeps, catch-keeps, send-keeps, written-keeps, ack-keeps, drop-keeps, join-keeps, start-keeps}
+use Rattle.delivery.specs.World.{Sent, Ack, Place, World, noPlace, placeAt, numbersIn, playerIn, withView, withLines, withViews, withPlayer, withPlace, onLine, takeFront, Step, main, catch, written, send, ack, late-ack, drop, join, start, append, Reply, answered, Stepped, called, calledThen, launch, takeAtLine, ackAtLine, cleared, reportsIn, step}
+use Rattle.delivery.specs.World as W
+use Rattle.delivery.specs.Invariant.{lastOf}
+use Rattle.delivery.specs.KeepSend.{launchedPlace}
+use Rattle.delivery.specs.Statement.{isDone, begins}
+use Rattle.delivery.specs.Worlds.{entries-in, count-in, window-in, windows-in, withViews-length, withViews-at, withPlayer-same, withPlayer-window, withPlayer-player, withPlace-here, withPlace-count, withPlace-player, withPlace-twice, withWindow-same}
+use Rattle.delivery.specs.Effects.{Worked, Mained, Work, stays, mains, works, Restarted, Facts, working, dropping, joining, starting, appending}
+use Rattle.delivery.specs.Effects as E
+use Rattle.delivery.specs.Stepped.{calledThen-refused, calledThen-done, call-refused, facts-catch, facts-written, facts-late, facts-drop}
+use Rattle.delivery.specs.SteppedLine.{facts-join, facts-send, facts-ack, facts-take}
+
+module _ (wd : World) (shaped : shape (numbersIn wd) (playerIn wd) ≡ true) where
+  -- ------------------------------------------------------------------------
+  -- Main
+
+  mained : (i : ℕ) → mainRule (numbersIn wd) i (playerIn wd) .answer ≡ 0 → Mained wd (withPlayer (mainRule (numbersIn wd) i (playerIn wd) .next) wd)
+  unfolding withPlayer
+  mained i e =
+      let o : Outcome = mainRule (numbersIn wd) i (playerIn wd) in
+      let d : MainDone (numbersIn wd) i (playerIn wd) o = mainRule-done (numbersIn wd) i (playerIn wd) e in
+      let n : length (o .next .windows) ≡ length (wd .places) = mainRule-count (numbersIn wd) i (playerIn wd) ∙ windows-in wd in
+      let i≡ : i ≡ suc (wd .current) = d .index ∙ add-one (wd .current) in
+      record {
+        below = omega (arith, d .below, count-in wd);
+        journal = refl;
+        current = ap (λ q. q .current) (d .next) ∙ i≡;
+        count = withViews-length (o .next .windows) (wd .places) n;
+        each = λ w h.
+            withViews-at (o .next .windows) (wd .places) w n h
+            ∙ ap (λ v. withView v (placeAt w wd))
+            (ap (windowAt w) (d .next)
+            ∙ mainNext-at (numbersIn wd) i (playerIn wd) w
+            ∙ ap₂ (λ j v. mainAt j w i v) (entries-in wd) (window-in w wd)
+            ∙ ap (λ i. mainAt (wd .journal) w i (placeAt w wd .view)) i≡);
+        shaped = ap (shape (numbersIn wd)) (withPlayer-player wd (o .next) n) ∙ main-keeps (numbersIn wd) (playerIn wd) shaped i;
+      }
+
+  pub main-moves : (i : ℕ) → mainRule (numbersIn wd) i (playerIn wd) .answer ≡ 0 → Mained wd (step (main i) wd .world)
+  unfolding step
+  main-moves i e = mained i e
+
+  facts-main : (i : ℕ) → Facts (main i) wd
+  unfolding step
+  facts-main i =
+      ⊎-elim
+      (λ (e : mainRule (numbersIn wd) i (playerIn wd) .answer ≡ 0). working refl (mains (main-moves i e)))
+      (λ (n : mainRule (numbersIn wd) i (playerIn wd) .answer ≡ 0 → ⊥). call-refused wd (main i) _ refl refl (mainRule-refuses (numbersIn wd) i (playerIn wd) n))
+      (eq-or-ne (mainRule (numbersIn wd) i (playerIn wd) .answer) 0)
+
+  -- ------------------------------------------------------------------------
+  -- Start
+
+  views-cleared : (ps : List Place) → map (λ p. p .view) (map cleared ps) ≡ map (λ p. p .view) ps
+  views-cleared [] = refl
+  views-cleared (p ∷ ps) = ap (λ l. p .view ∷ l) (views-cleared ps)
+
+  report-in : (w : ℕ) → getD (reportsIn wd) w 0 ≡ lastOf (placeAt w wd)
+  report-in w = List·getD-map lastOf (wd .places) w noPlace
+
+  restarted : (b : ℕ) → startRule (numbersIn wd) (length (wd .places)) b (reportsIn wd) (playerIn wd) .answer ≡ 0 → Restarted wd (step (start b) wd .world)
+  unfolding step withPlayer
+  restarted b e =
+      let o : Outcome = startRule (numbersIn wd) (length (wd .places)) b (reportsIn wd) (playerIn wd) in
+      let d : StartDone (numbersIn wd) (length (wd .places)) b (reportsIn wd) o = startRule-done (numbersIn wd) (length (wd .places)) b (reportsIn wd) (playerIn wd) e in
+      let all : World → World = λ wd′. record { journal = wd′ .journal; limit = wd′ .limit; current = wd′ .current; places = map cleared (wd′ .places) } in
+      let is : step (start b) wd .world ≡ all (withPlayer (o .next) wd) = calledThen-done o all wd e in
+      let n : length (o .next .windows) ≡ length (wd .places)
+      = ap (λ q. length (q .windows)) (d .next) ∙ length-map (reportsIn wd) started ∙ length-map (wd .places) lastOf in
+      let reports : length (reportsIn wd) ≡ length (wd .places) = length-map (wd .places) lastOf in
+      subst⁻¹ (Restarted wd) is
+      (record {
+        journal = refl;
+        count = length-map (withViews (o .next .windows) (wd .places)) cleared ∙ withViews-length (o .next .windows) (wd .places) n;
+        least = λ w h.
+            subst⁻¹ (λ c. c ≤ lastOf (placeAt w wd)) (ap (λ q. q .current) (d .next))
+            (subst (λ r. least (reportsIn wd) ≤ r) (report-in w) (least-le (reportsIn wd) w (omega arith)));
+        each = λ w h.
+            List·getD-map cleared (withViews (o .next .windows) (wd .places)) w noPlace
+            ∙ ap cleared
+            (withViews-at (o .next .windows) (wd .places) w n h
+            ∙ ap (λ v. withView v (placeAt w wd))
+            (ap (windowAt w) (d .next) ∙ startNext-at b (reportsIn wd) w (omega arith) ∙ ap started (report-in w)));
+        shaped =
+            ap (λ vs. shape (numbersIn wd) (record { limit = o .next .limit; current = o .next .current; windows = vs })) (views-cleared (withViews (o .next .windows) (wd .places)))
+            ∙ ap (shape (numbersIn wd)) (withPlayer-player wd (o .next) n)
+            ∙ start-keeps (numbersIn wd) (length (wd .places)) b (reportsIn wd) (playerIn wd) e;
+      })
+
+  facts-start : (b : ℕ) → Facts (start b) wd
+  unfolding step
+  facts-start b =
+      let o : Outcome = startRule (numbersIn wd) (length (wd .places)) b (reportsIn wd) (playerIn wd) in
+      ⊎-elim
+      (λ (e : o .answer ≡ 0). starting b refl (eq-eqb _ 0 e) (restarted b e))
+      (λ (n : o .answer ≡ 0 → ⊥).
+      working (ne-eqb _ 0 n)
+      (stays
+      (calledThen-refused o (λ wd′. record { journal = wd′ .journal; limit = wd′ .limit; current = wd′ .current; places = map cleared (wd′ .places) }) wd n
+      ∙ withPlayer-same wd (o .next) (startRule-refuses (numbersIn wd) (length (wd .places)) b (reportsIn wd) (playerIn wd) n))))
+      (eq-or-ne (o .answer) 0)
+
+  -- ------------------------------------------------------------------------
+  -- An append
+
+  facts-append : (e : Entry) → Facts (append e) wd
+  unfolding step
+  facts-append e =
+      ⊎-elim
+      (λ (h : 65535 ≤ length (wd .journal)).
+      working (simp (le-ltb (length (wd .journal)) 65535 h)) (stays (simp (le-ltb (length (wd .journal)) 65535 h))))
+      (λ (h : length (wd .journal) < 65535).
+      appending e refl (simp (lt-ltb (length (wd .journal)) 65535 h)) h (simp (lt-ltb (length (wd .journal)) 65535 h)))
+      (le-or-lt 65535 (length (wd .journal)))
+
+  -- ------------------------------------------------------------------------
+  -- every step
+
+  pub step-facts : (s : Step) → Facts s wd
+  step-facts (main i) = facts-main i
+  step-facts (catch w t i) = facts-catch wd shaped w t i
+  step-facts (written w t) = facts-written wd shaped w t
+  step-facts (send w out) = facts-send wd shaped w out
+  step-facts (W.take w) = facts-take wd shaped w
+  step-facts (ack w) = facts-ack wd shaped w
+  step-facts (late-ack w t i) = facts-late wd shaped w t i
+  step-facts (drop w) = facts-drop wd shaped w
+  step-facts (join w) = facts-join wd shaped w
+  step-facts (start b) = facts-start b
+  step-facts (append e) = facts-append e

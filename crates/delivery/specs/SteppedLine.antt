@@ -1,0 +1,185 @@
+-- The steps that reach a line: Send, Ack, Take and Join.
+use Prim.Native.Nat.{ℕ, zero, suc, _+_, _≤_, _<_}
+use mathlib.Core.Path.{_≡_, refl, sym, ap, ap₂, subst, subst⁻¹, subst₂, _∙_}
+use mathlib.Core.Logic.{_⊎_, inl, inr, ⊎-elim}
+use mathlib.Core.List.{List, [], _∷_, _++_, map}
+use mathlib.Core.Bool.{Bool, true, false, cond, _||_, false≢true}
+use native.Mathlib.Omega.{arith}
+use native.Mathlib.Numerals.{add-one}
+use borrow.Author.Tests.{eq-eqb, ne-eqb, lt-ltb, le-ltb, lt-leb, ltb-true}
+use lib.ListN.{length, getD, set, length-map, List·getD-map}
+use lib.Dec.{eqb, ltb, leb}
+use Rattle.journal.specs.declared.Entry.{Entry}
+use Rattle.journal.specs.Cases.{eq-or-ne, le-or-lt, true-or-false}
+use Rattle.journal.specs.Entry.{entriesOf}
+use Rattle.rules.specs.declared.Term.{Term}
+use Rattle.rules.specs.View.{WindowView, PlayerView}
+use Rattle.rules.specs.Shape.{shape}
+use Rattle.rules.specs.Window.{isSuspended, wanted, mainAt, fetched, batchOf, launched, freed, acknowledged, dropped, joined, started}
+use Rattle.rules.specs.Rules.{Outcome, windowAt, withWindow, mainRule, catchRule, writtenRule, ackRule, dropRule, joinRule, sendRule, startRule}
+use Rattle.rules.specs.Turns.{Caught, SentOut, WrittenOff, AckTaken}
+use Rattle.rules.specs.Laws.{Operated, catchRule-refuses, catchRule-done, sendRule-refuses, sendRule-done, writtenRule-refuses, writtenRule-done, ackRule-refuses, ackRule-done, dropRule-refuses, dropRule-done, joinRule-refuses, joinRule-done, MainDone, mainRule-done, mainRule-refuses, mainNext-at, mainRule-count}
+use Rattle.rules.specs.Starts.{StartDone, startRule-done, startRule-refuses, startNext-at, least-le}
+use Rattle.rules.specs.Kept.{main-keeps, catch-keeps, send-keeps, written-keeps, ack-keeps, drop-keeps, join-keeps, start-keeps}
+use Rattle.delivery.specs.World.{Sent, Ack, Place, World, noPlace, placeAt, numbersIn, playerIn, withView, withLines, withViews, withPlayer, withPlace, onLine, takeFront, Step, main, catch, written, send, ack, late-ack, drop, join, start, append, Reply, answered, Stepped, called, calledThen, launch, takeAtLine, ackAtLine, cleared, reportsIn, step}
+use Rattle.delivery.specs.World as W
+use Rattle.delivery.specs.Invariant.{lastOf}
+use Rattle.delivery.specs.KeepSend.{launchedPlace}
+use Rattle.delivery.specs.Statement.{isDone, begins}
+use Rattle.delivery.specs.Worlds.{entries-in, count-in, window-in, windows-in, withViews-length, withViews-at, withPlayer-same, withPlayer-window, withPlayer-player, withPlace-here, withPlace-count, withPlace-player, withPlace-twice, withWindow-same}
+use Rattle.delivery.specs.Effects.{Worked, Mained, Work, stays, mains, works, WorksAt, Restarted, Facts, working, dropping, joining, starting, appending}
+use Rattle.delivery.specs.Effects as E
+use Rattle.delivery.specs.Stepped.{within-in, lift, shape-after, calledThen-refused, calledThen-done, works-facts}
+
+-- a refusal of a call that would change a line
+thenRefused : (wd : World) (s : Step) (o : Outcome) (f : World → World) → step s wd ≡ calledThen o f wd → begins s (answered (o .answer)) ≡ false →
+    (o .answer ≡ 0 → ⊥) → o .next ≡ playerIn wd → Facts s wd
+thenRefused wd s o f is quiet n same =
+    working (ap (λ r. begins s (r .reply)) is ∙ quiet)
+    (stays (ap (λ r. r .world) is ∙ calledThen-refused o f wd n ∙ withPlayer-same wd (o .next) same))
+
+-- a call at window w that is answered 0, and then a change of that window's lines
+module _ (wd : World) (w : ℕ) (o : Outcome) (v′ : WindowView) (h : w < length (wd .places)) (next : o .next ≡ withWindow w v′ (playerIn wd)) where
+  thenDone : (e : o .answer ≡ 0) (f : World → World) (g : Place → Place) → ((x : World) → f x ≡ withPlace w (g (placeAt w x)) x) →
+      calledThen o f wd .world ≡ withPlace w (g (withView v′ (placeAt w wd))) wd
+  thenDone e f g is =
+      calledThen-done o f wd e
+      ∙ ap f (withPlayer-window wd (o .next) w v′ next)
+      ∙ is (withPlace w (withView v′ (placeAt w wd)) wd)
+      ∙ ap (λ p. withPlace w (g p) (withPlace w (withView v′ (placeAt w wd)) wd)) (withPlace-here w (withView v′ (placeAt w wd)) wd h)
+      ∙ withPlace-twice w (withView v′ (placeAt w wd)) (g (withView v′ (placeAt w wd))) wd
+
+module _ (wd : World) (shaped : shape (numbersIn wd) (playerIn wd) ≡ true) where
+  -- ------------------------------------------------------------------------
+  -- Join
+
+  pub facts-join : (w : ℕ) → Facts (join w) wd
+  unfolding step
+  facts-join w =
+      let r : ℕ = lastOf (placeAt w wd) in
+      let o : Outcome = joinRule (numbersIn wd) w (lastOf (placeAt w wd)) (playerIn wd) in
+      ⊎-elim
+      (λ (e : o .answer ≡ 0).
+      let d = joinRule-done (numbersIn wd) w r (playerIn wd) e in
+      let h : w < length (wd .places) = within-in wd w (d .within) in
+      let v′ : WindowView = joined (wd .current) r (windowAt w (playerIn wd)) in
+      let is : step (join w) wd .world ≡ withPlace w (cleared (withView (joined (wd .current) r (placeAt w wd .view)) (placeAt w wd))) wd
+      = thenDone wd w o v′ h (d .next) e _ cleared (λ x. refl)
+      ∙ ap (λ v. withPlace w (cleared (withView (joined (wd .current) r v) (placeAt w wd))) wd) (window-in w wd) in
+      joining w refl (eq-eqb _ 0 e) h (sym (ap (λ v. isSuspended (v .state)) (window-in w wd)) ∙ d .turn .away) is
+      (shape-after wd w (o .next) v′ _ _ (d .next) (join-keeps (numbersIn wd) (playerIn wd) shaped w r) is
+      (ap (joined (wd .current) r) (sym (window-in w wd)))))
+      (λ (n : o .answer ≡ 0 → ⊥). thenRefused wd (join w) o (λ wd′. withPlace w (cleared (placeAt w wd′)) wd′) refl (ne-eqb _ 0 n) n (joinRule-refuses (numbersIn wd) w r (playerIn wd) n))
+      (eq-or-ne (o .answer) 0)
+
+  -- ------------------------------------------------------------------------
+  -- Send
+
+  pub send-works : (w : ℕ) (out : List ℕ) → sendRule (numbersIn wd) w (length out) (playerIn wd) .answer ≡ 0 → WorksAt (send w out) wd w
+  unfolding step
+  send-works w out e =
+      let o : Outcome = sendRule (numbersIn wd) w (length out) (playerIn wd) in
+      let d = sendRule-done (numbersIn wd) w (length out) (playerIn wd) e in
+      let h : w < length (wd .places) = within-in wd w (d .within) in
+      let v : WindowView = windowAt w (playerIn wd) in
+      let put : WindowView → Place → Place
+      = λ v p. withLines (p .line ++ onLine (wd .journal) (placeAt w wd .view .term) (batchOf (wd .limit) v .indices)) (p .back) p in
+      let is : step (send w out) wd .world ≡ withPlace w (launchedPlace (wd .journal) (batchOf (wd .limit) (placeAt w wd .view)) (placeAt w wd)) wd
+      = thenDone wd w o (launched (batchOf (wd .limit) v)) h (d .next) e _ (put v) (λ x. refl)
+      ∙ ap (λ v. withPlace w (put v (withView (launched (batchOf (wd .limit) v)) (placeAt w wd))) wd) (window-in w wd) in
+      record {
+        within = h;
+        after = launchedPlace (wd .journal) (batchOf (wd .limit) (placeAt w wd .view)) (placeAt w wd);
+        work = E.sent (length out) (subst (SentOut (wd .limit) (length out)) (window-in w wd) (d .turn)) refl;
+        world = is;
+        shaped =
+            shape-after wd w (o .next) (launched (batchOf (wd .limit) v)) _ _ (d .next) (send-keeps (numbersIn wd) (playerIn wd) shaped w (length out)) is
+            (ap (λ v. launched (batchOf (wd .limit) v)) (sym (window-in w wd)));
+      }
+
+  pub facts-send : (w : ℕ) (out : List ℕ) → Facts (send w out) wd
+  unfolding step
+  facts-send w out =
+      let o : Outcome = sendRule (numbersIn wd) w (length out) (playerIn wd) in
+      ⊎-elim
+      (λ (e : o .answer ≡ 0). works-facts wd w (send w out) refl (send-works w out e))
+      (λ (n : o .answer ≡ 0 → ⊥). thenRefused wd (send w out) o (launch w wd) refl refl n (sendRule-refuses (numbersIn wd) w (length out) (playerIn wd) n))
+      (eq-or-ne (o .answer) 0)
+
+  -- ------------------------------------------------------------------------
+  -- Ack
+
+  ack-line : (w : ℕ) (b : List Ack) → w < length (wd .places) → placeAt w wd .back ≡ b → step (ack w) wd ≡ ackAtLine w b wd
+  unfolding step
+  ack-line w b h front = simp (lt-ltb w (length (wd .places)) h) (ap (λ b. ackAtLine w b wd) front)
+
+  pub ack-works : (w : ℕ) (a : Ack) (rest : List Ack) → w < length (wd .places) → placeAt w wd .back ≡ a ∷ rest →
+      ackRule (numbersIn wd) w (a .term) (a .index) (playerIn wd) .answer ≡ 0 → WorksAt (ack w) wd w
+  ack-works w a rest h front e =
+      let o : Outcome = ackRule (numbersIn wd) w (a .term) (a .index) (playerIn wd) in
+      let d = ackRule-done (numbersIn wd) w (a .term) (a .index) (playerIn wd) e in
+      let v : WindowView = windowAt w (playerIn wd) in
+      let put : Place → Place = λ p. withLines (p .line) rest p in
+      let done : step (ack w) wd .world ≡ withPlace w (withLines (placeAt w wd .line) rest (withView (acknowledged (a .index) (placeAt w wd .view)) (placeAt w wd))) wd
+      = ap (λ r. r .world) (ack-line w (a ∷ rest) h front)
+      ∙ thenDone wd w o (acknowledged (a .index) v) h (d .next) e _ put (λ x. refl)
+      ∙ ap (λ v. withPlace w (put (withView (acknowledged (a .index) v) (placeAt w wd))) wd) (window-in w wd) in
+      record {
+        within = h;
+        after = withLines (placeAt w wd .line) rest (withView (acknowledged (a .index) (placeAt w wd .view)) (placeAt w wd));
+        work = E.acked a rest front (subst (AckTaken (a .term) (a .index)) (window-in w wd) (d .turn)) refl;
+        world = done;
+        shaped =
+            shape-after wd w (o .next) (acknowledged (a .index) v) _ _ (d .next) (ack-keeps (numbersIn wd) (playerIn wd) shaped w (a .term) (a .index)) done
+            (ap (acknowledged (a .index)) (sym (window-in w wd)));
+      }
+
+  ack-front : (w : ℕ) (b : List Ack) → w < length (wd .places) → placeAt w wd .back ≡ b → Facts (ack w) wd
+  ack-front w [] h front = let is = ack-line w [] h front in working refl (stays (ap (λ r. r .world) is))
+  ack-front w (a ∷ rest) h front =
+      let o : Outcome = ackRule (numbersIn wd) w (a .term) (a .index) (playerIn wd) in
+      ⊎-elim
+      (λ (e : o .answer ≡ 0). works-facts wd w (ack w) refl (ack-works w a rest h front e))
+      (λ (n : o .answer ≡ 0 → ⊥).
+      thenRefused wd (ack w) o (λ wd′. withPlace w (withLines (placeAt w wd′ .line) rest (placeAt w wd′)) wd′) (ack-line w (a ∷ rest) h front) refl n
+      (ackRule-refuses (numbersIn wd) w (a .term) (a .index) (playerIn wd) n))
+      (eq-or-ne (o .answer) 0)
+
+  pub facts-ack : (w : ℕ) → Facts (ack w) wd
+  unfolding step
+  facts-ack w =
+      ⊎-elim
+      (λ (h : length (wd .places) ≤ w). working refl (stays (simp (le-ltb w (length (wd .places)) h))))
+      (λ (h : w < length (wd .places)). ack-front w (placeAt w wd .back) h refl)
+      (le-or-lt (length (wd .places)) w)
+
+  -- ------------------------------------------------------------------------
+  -- Take
+
+  take-line : (w : ℕ) (l : List Sent) → w < length (wd .places) → placeAt w wd .line ≡ l → step (W.take w) wd ≡ takeAtLine w l wd
+  unfolding step
+  take-line w l h front = simp (lt-ltb w (length (wd .places)) h) (ap (λ l. takeAtLine w l wd) front)
+
+  pub take-works : (w : ℕ) (s : Sent) (rest : List Sent) → w < length (wd .places) → placeAt w wd .line ≡ s ∷ rest → WorksAt (W.take w) wd w
+  unfolding takeFront
+  take-works w s rest h front =
+      let done : step (W.take w) wd .world ≡ withPlace w (takeFront s rest (placeAt w wd)) wd = ap (λ r. r .world) (take-line w (s ∷ rest) h front) in
+      record {
+        within = h;
+        after = takeFront s rest (placeAt w wd);
+        work = E.took s rest front refl;
+        world = done;
+        shaped = shape-after wd w (playerIn wd) (placeAt w wd .view) _ _ (sym (withWindow-same w wd)) shaped done refl;
+      }
+
+  take-front : (w : ℕ) (l : List Sent) → w < length (wd .places) → placeAt w wd .line ≡ l → Facts (W.take w) wd
+  take-front w [] h front = working refl (stays (ap (λ r. r .world) (take-line w [] h front)))
+  take-front w (s ∷ rest) h front = works-facts wd w (W.take w) refl (take-works w s rest h front)
+
+  pub facts-take : (w : ℕ) → Facts (W.take w) wd
+  unfolding step
+  facts-take w =
+      ⊎-elim
+      (λ (h : length (wd .places) ≤ w). working refl (stays (simp (le-ltb w (length (wd .places)) h))))
+      (λ (h : w < length (wd .places)). take-front w (placeAt w wd .line) h refl)
+      (le-or-lt (length (wd .places)) w)

@@ -1,0 +1,201 @@
+-- Document 01, "Whole runs": a world of journal, player, windows and lines, and what each step makes of it.
+use Prim.Native.Nat.{ℕ, zero, suc}
+use mathlib.Core.List.{List, [], _∷_, _++_, map}
+use mathlib.Core.Bool.{Bool, true, false, cond, _||_}
+use lib.ListN.{length, getD, set, replicate}
+use lib.Dec.{leb, ltb, eqb}
+use Rattle.journal.specs.declared.Entry.{Entry}
+use Rattle.journal.specs.Entry.{Placed, numbersOf, placedAt, fiveOf}
+use Rattle.window.specs.declared.Record.{Record}
+use Rattle.window.specs.Record.{newRecord, takeNumbers}
+use Rattle.window.specs.Record as Take
+use Rattle.rules.specs.declared.Term.{Term}
+use Rattle.rules.specs.View.{WindowView, noWindow, PlayerView}
+use Rattle.rules.specs.Rules.{Outcome, mainRule, catchRule, writtenRule, ackRule, dropRule, joinRule, sendRule, batchAt, startRule}
+
+-- an entry on its way to a window, with the term of its batch and whether it is the batch's last
+pub record Sent : Type 0 where
+  pub placed : Placed
+  pub term : Term
+  pub ends : Bool
+
+-- an ack on its way back: the term of the batch and its last index
+pub record Ack : Type 0 where
+  pub term : Term
+  pub index : ℕ
+
+-- one window's side of a run: what the player holds for it, its record, the line to it, the line back, and what it has taken
+pub record Place : Type 0 where
+  pub view : WindowView
+  pub record′ : Record
+  pub line : List Sent
+  pub back : List Ack
+  pub taken : List Placed
+
+pub record World : Type 0 where
+  pub journal : List Entry
+  pub limit : ℕ
+  pub current : ℕ
+  pub places : List Place
+
+abbrev pub noPlace : Place
+noPlace = record { view = noWindow; record′ = newRecord; line = []; back = []; taken = [] }
+
+abbrev pub placeAt : ℕ → World → Place
+placeAt w wd = getD (wd .places) w noPlace
+
+-- the journal as numbers, and the player, as the rules take them
+abbrev pub numbersIn : World → List ℕ
+numbersIn wd = numbersOf (wd .journal)
+
+abbrev pub playerIn : World → PlayerView
+playerIn wd = record { limit = wd .limit; current = wd .current; windows = map (λ p. p .view) (wd .places) }
+
+-- ------------------------------------------------------------------------
+-- Parts of a world replaced
+
+abbrev pub withView : WindowView → Place → Place
+withView v p = record { view = v; record′ = p .record′; line = p .line; back = p .back; taken = p .taken }
+
+abbrev pub withLines : List Sent → List Ack → Place → Place
+withLines l b p = record { view = p .view; record′ = p .record′; line = l; back = b; taken = p .taken }
+
+unfoldable pub withViews : List WindowView → List Place → List Place
+withViews [] ps = []
+withViews (v ∷ vs) [] = []
+withViews (v ∷ vs) (p ∷ ps) = withView v p ∷ withViews vs ps
+
+-- the world with the player as a rule leaves it
+unfoldable pub withPlayer : PlayerView → World → World
+withPlayer p wd = record { journal = wd .journal; limit = p .limit; current = p .current; places = withViews (p .windows) (wd .places) }
+
+abbrev pub withPlace : ℕ → Place → World → World
+withPlace w p wd = record { journal = wd .journal; limit = wd .limit; current = wd .current; places = set (wd .places) w p }
+
+-- ------------------------------------------------------------------------
+-- The lines
+
+-- a batch on the line: its entries with its term, the last marked
+unfoldable pub onLine : List Entry → Term → List ℕ → List Sent
+onLine j t [] = []
+onLine j t (i ∷ []) = record { placed = placedAt j i; term = t; ends = true } ∷ []
+onLine j t (i ∷ k ∷ is) = record { placed = placedAt j i; term = t; ends = false } ∷ onLine j t (k ∷ is)
+
+-- Take is lent the front entry and removes it; the last of a batch puts an ack on the way back
+unfoldable pub takeFront : Sent → List Sent → Place → Place
+takeFront s rest p =
+    let o : Take.Outcome = takeNumbers (fiveOf (s .placed)) (p .record′) in
+    record {
+      view = p .view;
+      record′ = o .record′;
+      line = rest;
+      back = cond (s .ends) (p .back ++ (record { term = s .term; index = s .placed .index } ∷ [])) (p .back);
+      taken = cond (eqb (o .number) 0) (p .taken ++ (s .placed ∷ [])) (p .taken);
+    }
+
+-- ------------------------------------------------------------------------
+-- Steps
+
+pub data Step : Type 0 where
+  main : ℕ → Step
+  catch : ℕ → Term → ℕ → Step
+  written : ℕ → Term → Step
+  send : ℕ → List ℕ → Step
+  take : ℕ → Step
+  ack : ℕ → Step
+  late-ack : ℕ → Term → ℕ → Step
+  drop : ℕ → Step
+  join : ℕ → Step
+  start : ℕ → Step
+  append : Entry → Step
+
+-- document 01's number; or a Take or an Ack from an empty line; or a step that is not made: a late ack of a term that is not older, an
+-- append past 65,535 entries
+pub data Reply : Type 0 where
+  answered : ℕ → Reply
+  empty : Reply
+  unmade : Reply
+
+pub record Stepped : Type 0 where
+  pub reply : Reply
+  pub world : World
+
+abbrev pub stays : Reply → World → Stepped
+stays r wd = record { reply = r; world = wd }
+
+-- a call of the player, and nothing else
+abbrev pub called : Outcome → World → Stepped
+called o wd = record { reply = answered (o .answer); world = withPlayer (o .next) wd }
+
+-- a call of the player, and where it is answered 0 a change of the world after it
+abbrev pub calledThen : Outcome → (World → World) → World → Stepped
+calledThen o f wd = record {
+  reply = answered (o .answer);
+  world = cond (eqb (o .answer) 0) (f (withPlayer (o .next) wd)) (withPlayer (o .next) wd);
+}
+
+-- Send answered 0 puts the batch that it wrote on its window's line
+abbrev pub launch : ℕ → World → World → World
+launch w before wd =
+    let p : Place = placeAt w wd in
+    withPlace w (withLines (p .line ++ onLine (before .journal) (placeAt w before .view .term) (batchAt w (playerIn before))) (p .back) p) wd
+
+abbrev pub takeAtLine : ℕ → List Sent → World → Stepped
+takeAtLine w [] wd = stays empty wd
+takeAtLine w (s ∷ rest) wd = record {
+  reply = answered (takeNumbers (fiveOf (s .placed)) (placeAt w wd .record′) .number);
+  world = withPlace w (takeFront s rest (placeAt w wd)) wd;
+}
+
+-- Ack offers the front ack, which stays on the line if refused
+abbrev pub ackAtLine : ℕ → List Ack → World → Stepped
+ackAtLine w [] wd = stays empty wd
+ackAtLine w (a ∷ rest) wd =
+    calledThen (ackRule (numbersIn wd) w (a .term) (a .index) (playerIn wd))
+    (λ wd′. withPlace w (withLines (placeAt w wd′ .line) rest (placeAt w wd′)) wd′) wd
+
+-- both ways of a line emptied
+abbrev pub cleared : Place → Place
+cleared p = withLines [] [] p
+
+-- the reports that Start gets: the last index of each window's record
+abbrev pub reportsIn : World → List ℕ
+reportsIn wd = map (λ p. p .record′ .last .0) (wd .places)
+
+-- windows from W up have no line: a Take or an Ack there is answered 2, as the player's calls are
+unfoldable pub step : Step → World → Stepped
+step (main i) wd = called (mainRule (numbersIn wd) i (playerIn wd)) wd
+step (catch w t i) wd = called (catchRule (numbersIn wd) w t i (playerIn wd)) wd
+step (written w t) wd = called (writtenRule (numbersIn wd) w t (playerIn wd)) wd
+step (send w out) wd = calledThen (sendRule (numbersIn wd) w (length out) (playerIn wd)) (launch w wd) wd
+step (take w) wd = cond (ltb w (length (wd .places))) (takeAtLine w (placeAt w wd .line) wd) (stays (answered 2) wd)
+step (ack w) wd = cond (ltb w (length (wd .places))) (ackAtLine w (placeAt w wd .back) wd) (stays (answered 2) wd)
+step (late-ack w t i) wd =
+    cond (leb (length (wd .places)) w || ltb (t .0) (placeAt w wd .view .term .0)) (called (ackRule (numbersIn wd) w t i (playerIn wd)) wd)
+    (stays unmade wd)
+step (drop w) wd = called (dropRule (numbersIn wd) w (playerIn wd)) wd
+step (join w) wd =
+    calledThen (joinRule (numbersIn wd) w (placeAt w wd .record′ .last .0) (playerIn wd))
+    (λ wd′. withPlace w (cleared (placeAt w wd′)) wd′) wd
+step (start b) wd =
+    calledThen (startRule (numbersIn wd) (length (wd .places)) b (reportsIn wd) (playerIn wd))
+    (λ wd′. record { journal = wd′ .journal; limit = wd′ .limit; current = wd′ .current; places = map cleared (wd′ .places) }) wd
+step (append e) wd =
+    cond (ltb (length (wd .journal)) 65535)
+    (stays (answered 0) (record { journal = wd .journal ++ (e ∷ []); limit = wd .limit; current = wd .current; places = wd .places }))
+    (stays unmade wd)
+
+-- the world after a list of steps
+unfoldable pub run : World → List Step → World
+run wd [] = wd
+run wd (s ∷ ss) = run (step s wd .world) ss
+
+-- ------------------------------------------------------------------------
+-- The beginning: new windows, empty lines, any journal and a Start
+
+abbrev pub newPlace : WindowView → Place
+newPlace v = record { view = v; record′ = newRecord; line = []; back = []; taken = [] }
+
+-- the world after a first Start
+unfoldable pub opened : List Entry → Outcome → World
+opened j o = record { journal = j; limit = o .next .limit; current = o .next .current; places = map newPlace (o .next .windows) }

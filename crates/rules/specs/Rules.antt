@@ -1,0 +1,109 @@
+-- Document 01, "Operations of the player": the shape, then the window, then the window's rule. A promise is an equation with one of these.
+use Prim.Native.Nat.{ℕ, zero, suc, _+_, min}
+use mathlib.Core.List.{List, [], _∷_, _++_, map}
+use mathlib.Core.Bool.{Bool, true, false, not, cond, _&&_}
+use lib.ListN.{length, getD, set, drop}
+use lib.Dec.{leb, ltb, eqb}
+use Rattle.journal.specs.declared.Entry.{Entry}
+use Rattle.journal.specs.Entry.{inShape, countOf, entriesOf, placedAt, fiveOf}
+use Rattle.rules.specs.declared.Term.{Term}
+use Rattle.rules.specs.View.{WindowView, PlayerView, noWindow}
+use Rattle.rules.specs.Shape.{countFits, limitFits, shape}
+use Rattle.rules.specs.Window.{Turn, mainAt, catchAt, batchOf, sendAt, writtenAt, ackAt, dropAt, joinAt, isReport, started}
+
+-- an answer and the player as it then is
+pub record Outcome : Type 0 where
+  pub answer : ℕ
+  pub next : PlayerView
+
+abbrev pub refuse : ℕ → PlayerView → Outcome
+refuse n p = record { answer = n; next = p }
+
+abbrev pub windowAt : ℕ → PlayerView → WindowView
+windowAt w p = getD (p .windows) w noWindow
+
+abbrev pub withWindow : ℕ → WindowView → PlayerView → PlayerView
+withWindow w v p = record { limit = p .limit; current = p .current; windows = set (p .windows) w v }
+
+-- a turn of window w
+abbrev pub turned : ℕ → Turn → PlayerView → Outcome
+turned w t p = record { answer = t .answer; next = withWindow w (t .next) p }
+
+-- every operation on a window: 1 out of shape, 2 no such window, then the window's own rule
+unfoldable pub operate : List ℕ → ℕ → (WindowView → Turn) → PlayerView → Outcome
+operate ns w rule p =
+    cond (not (shape ns p)) (refuse 1 p)
+    (cond (not (ltb w (length (p .windows)))) (refuse 2 p) (turned w (rule (windowAt w p)) p))
+
+-- every window by its own rule; the first is window w
+unfoldable pub mapWindows : (ℕ → WindowView → WindowView) → ℕ → List WindowView → List WindowView
+mapWindows f w [] = []
+mapWindows f w (v ∷ vs) = f w v ∷ mapWindows f (suc w) vs
+
+-- Main: 1; 4: `current` is L; 6: the index is not `current` + 1
+unfoldable pub mainRule : List ℕ → ℕ → PlayerView → Outcome
+mainRule ns i p =
+    cond (not (shape ns p)) (refuse 1 p)
+    (cond (eqb (p .current) (countOf ns)) (refuse 4 p)
+    (cond (not (eqb i (p .current + 1))) (refuse 6 p)
+    (record {
+      answer = 0;
+      next = record { limit = p .limit; current = i; windows = mapWindows (λ w v. mainAt (entriesOf ns) w i v) 0 (p .windows) };
+    })))
+
+unfoldable pub catchRule : List ℕ → ℕ → Term → ℕ → PlayerView → Outcome
+catchRule ns w t i p = operate ns w (λ v. catchAt (entriesOf ns) w t i v) p
+
+unfoldable pub writtenRule : List ℕ → ℕ → Term → PlayerView → Outcome
+writtenRule ns w t p = operate ns w (λ v. writtenAt t v) p
+
+unfoldable pub ackRule : List ℕ → ℕ → Term → ℕ → PlayerView → Outcome
+ackRule ns w t i p = operate ns w (λ v. ackAt t i v) p
+
+unfoldable pub dropRule : List ℕ → ℕ → PlayerView → Outcome
+dropRule ns w p = operate ns w (λ v. dropAt v) p
+
+unfoldable pub joinRule : List ℕ → ℕ → ℕ → PlayerView → Outcome
+joinRule ns w r p = operate ns w (λ v. joinAt (entriesOf ns) w (p .current) r v) p
+
+-- ------------------------------------------------------------------------
+-- Send: the player's turn, and the output lent
+
+unfoldable pub sendRule : List ℕ → ℕ → ℕ → PlayerView → Outcome
+sendRule ns w size p = operate ns w (λ v. sendAt (p .limit) size v) p
+
+-- the numbers of a batch, index and four numbers an entry
+unfoldable pub batchNumbers : List Entry → List ℕ → List ℕ
+batchNumbers j [] = []
+batchNumbers j (i ∷ is) = fiveOf (placedAt j i) ++ batchNumbers j is
+
+-- the batch that a Send answered 0 writes
+abbrev pub batchAt : ℕ → PlayerView → List ℕ
+batchAt w p = batchOf (p .limit) (windowAt w p) .indices
+
+-- the output after Send: the batch's numbers, and the numbers after them untouched; a refusal leaves it as it was
+unfoldable pub sendOutput : List ℕ → ℕ → List ℕ → PlayerView → List ℕ
+sendOutput ns w out p =
+    let sent : List ℕ = batchNumbers (entriesOf ns) (batchAt w p) in
+    cond (eqb (sendRule ns w (length out) p .answer) 0) (sent ++ drop (length sent) out) out
+
+-- ------------------------------------------------------------------------
+-- Start: W, the batch limit and a report from each window; what the player held before is not read
+
+-- at most L, and 0 or the index of an entry for the window, for each from window w on
+unfoldable pub areReports : List Entry → ℕ → List ℕ → Bool
+areReports j w [] = true
+areReports j w (r ∷ rs) = (leb r (length j) && isReport j w r) && areReports j (suc w) rs
+
+-- the least of some numbers
+unfoldable pub least : List ℕ → ℕ
+least [] = 0
+least (r ∷ []) = r
+least (r ∷ s ∷ rs) = min r (least (s ∷ rs))
+
+-- 1, also if there are not exactly W reports. 13: a report above L, or not 0 and not the index of an entry for that window
+unfoldable pub startRule : List ℕ → ℕ → ℕ → List ℕ → PlayerView → Outcome
+startRule ns count limit reports p =
+    cond (not (countFits count && (limitFits limit && (inShape ns && eqb (length reports) count)))) (refuse 1 p)
+    (cond (not (areReports (entriesOf ns) 0 reports)) (refuse 13 p)
+    (record { answer = 0; next = record { limit = limit; current = least reports; windows = map started reports } }))

@@ -1,0 +1,126 @@
+-- The shape's clauses as facts.
+use Prim.Native.Nat.{ℕ, zero, suc, _≤_, _<_}
+use mathlib.Core.Path.{_≡_, refl}
+use mathlib.Core.List.{List, [], _∷_}
+use mathlib.Core.Bool.{Bool, true}
+use native.Mathlib.Omega.{arith}
+use borrow.Author.Tests.{leb-true, le-leb}
+use lib.ListN.{length, getD}
+use lib.Dec.{leb}
+use Rattle.journal.specs.Cases.{and-left, and-right, and-intro}
+use Rattle.journal.specs.Entry.{inShape, countOf}
+use Rattle.queue.specs.Items.{all, queuedIn, heldIn}
+use Rattle.rules.specs.View.{WindowView, PlayerView, noWindow}
+use Rattle.rules.specs.Shape.{lengthsFit, queuedFit, heldFit, countFits, limitFits, stateHeld, nextFits, endFits, catchUpFits, suspendedFits, windowShape, allWindows, shape}
+use Rattle.rules.specs.Rules.{windowAt}
+
+-- ------------------------------------------------------------------------
+-- windowShape
+
+-- a window in shape, with L and `current`
+pub record WindowShaped (l current : ℕ) (v : WindowView) : Type 0 where
+  pub normalFits : length (v .normalQueue) ≤ 128
+  pub catchFits : length (v .catchQueue) ≤ 128
+  pub batchesFit : length (v .batches) ≤ 8
+  pub normalIn : all (queuedIn l) (v .normalQueue) ≡ true
+  pub catchIn : all (queuedIn l) (v .catchQueue) ≡ true
+  pub ackedIn : v .acked ≤ l
+  pub sentIn : v .sent ≤ l
+  pub batchesIn : all (heldIn l) (v .batches) ≡ true
+  pub stateIn : stateHeld l (v .state) ≡ true
+  pub next : nextFits (v .state) ≡ true
+  pub end : endFits current (v .state) ≡ true
+  pub catchUp : catchUpFits (v .state) (v .catchQueue) ≡ true
+  pub away : suspendedFits v (v .state) ≡ true
+
+pub windowShaped : (l current : ℕ) (v : WindowView) → windowShape l current v ≡ true → WindowShaped l current v
+unfolding windowShape
+windowShaped l current v e =
+    let a = and-left (lengthsFit v) _ e in
+    let e₁ = and-right (lengthsFit v) _ e in
+    let a₁ = and-right (leb (length (v .normalQueue)) 128) _ a in
+    let b = and-left (queuedFit l v) _ e₁ in
+    let e₂ = and-right (queuedFit l v) _ e₁ in
+    let c = and-left (heldFit l v) _ e₂ in
+    let e₃ = and-right (heldFit l v) _ e₂ in
+    let c₁ = and-right (leb (v .acked) l) _ c in
+    let c₂ = and-right (leb (v .sent) l) _ c₁ in
+    let e₄ = and-right (nextFits (v .state)) _ e₃ in
+    let e₅ = and-right (endFits current (v .state)) _ e₄ in
+    record {
+      normalFits = leb-true _ _ (and-left (leb (length (v .normalQueue)) 128) _ a);
+      catchFits = leb-true _ _ (and-left (leb (length (v .catchQueue)) 128) _ a₁);
+      batchesFit = leb-true _ _ (and-right (leb (length (v .catchQueue)) 128) _ a₁);
+      normalIn = and-left (all (queuedIn l) (v .normalQueue)) _ b;
+      catchIn = and-right (all (queuedIn l) (v .normalQueue)) _ b;
+      ackedIn = leb-true _ _ (and-left (leb (v .acked) l) _ c);
+      sentIn = leb-true _ _ (and-left (leb (v .sent) l) _ c₁);
+      batchesIn = and-left (all (heldIn l) (v .batches)) _ c₂;
+      stateIn = and-right (all (heldIn l) (v .batches)) _ c₂;
+      next = and-left (nextFits (v .state)) _ e₃;
+      end = and-left (endFits current (v .state)) _ e₄;
+      catchUp = and-left (catchUpFits (v .state) (v .catchQueue)) _ e₅;
+      away = and-right (catchUpFits (v .state) (v .catchQueue)) _ e₅;
+    }
+
+pub windowShape-of : (l current : ℕ) (v : WindowView) → WindowShaped l current v → windowShape l current v ≡ true
+unfolding windowShape
+windowShape-of l current v s =
+    and-intro (and-intro (le-leb _ _ (s .normalFits)) (and-intro (le-leb _ _ (s .catchFits)) (le-leb _ _ (s .batchesFit))))
+    (and-intro (and-intro (s .normalIn) (s .catchIn))
+    (and-intro (and-intro (le-leb _ _ (s .ackedIn)) (and-intro (le-leb _ _ (s .sentIn)) (and-intro (s .batchesIn) (s .stateIn))))
+    (and-intro (s .next) (and-intro (s .end) (and-intro (s .catchUp) (s .away))))))
+
+-- ------------------------------------------------------------------------
+-- allWindows
+
+pub allWindows-at : (q : WindowView → Bool) (vs : List WindowView) → allWindows q vs ≡ true → (w : ℕ) → w < length vs → q (getD vs w noWindow) ≡ true
+unfolding allWindows
+allWindows-at q [] e w h = absurd (omega arith)
+allWindows-at q (v ∷ vs) e zero h = and-left (q v) _ e
+allWindows-at q (v ∷ vs) e (suc w) h = allWindows-at q vs (and-right (q v) _ e) w (omega arith)
+
+pub allWindows-of : (q : WindowView → Bool) (vs : List WindowView) → ((w : ℕ) → w < length vs → q (getD vs w noWindow) ≡ true) → allWindows q vs ≡ true
+unfolding allWindows
+allWindows-of q [] h = refl
+allWindows-of q (v ∷ vs) h = and-intro (h 0 (omega arith)) (allWindows-of q vs (λ w l. h (suc w) (omega arith)))
+
+-- ------------------------------------------------------------------------
+-- shape
+
+-- a state in shape, with the journal as numbers
+pub record Shaped (ns : List ℕ) (p : PlayerView) : Type 0 where
+  pub some : 1 ≤ length (p .windows)
+  pub most : length (p .windows) ≤ 16
+  pub limitSome : 1 ≤ p .limit
+  pub limitMost : p .limit ≤ 32
+  pub journal : inShape ns ≡ true
+  pub currentIn : p .current ≤ countOf ns
+  pub windows : (w : ℕ) → w < length (p .windows) → WindowShaped (countOf ns) (p .current) (windowAt w p)
+
+pub shaped : (ns : List ℕ) (p : PlayerView) → shape ns p ≡ true → Shaped ns p
+unfolding shape
+shaped ns p e =
+    let a = and-left (countFits (length (p .windows))) _ e in
+    let e₁ = and-right (countFits (length (p .windows))) _ e in
+    let b = and-left (limitFits (p .limit)) _ e₁ in
+    let e₂ = and-right (limitFits (p .limit)) _ e₁ in
+    let e₃ = and-right (inShape ns) _ e₂ in
+    let e₄ = and-right (leb (p .current) (countOf ns)) _ e₃ in
+    record {
+      some = leb-true _ _ (and-left (leb 1 (length (p .windows))) _ a);
+      most = leb-true _ _ (and-right (leb 1 (length (p .windows))) _ a);
+      limitSome = leb-true _ _ (and-left (leb 1 (p .limit)) _ b);
+      limitMost = leb-true _ _ (and-right (leb 1 (p .limit)) _ b);
+      journal = and-left (inShape ns) _ e₂;
+      currentIn = leb-true _ _ (and-left (leb (p .current) (countOf ns)) _ e₃);
+      windows = λ w h. windowShaped _ _ _ (allWindows-at _ (p .windows) e₄ w h);
+    }
+
+pub shape-of : (ns : List ℕ) (p : PlayerView) → Shaped ns p → shape ns p ≡ true
+unfolding shape
+shape-of ns p s =
+    and-intro (and-intro (le-leb _ _ (s .some)) (le-leb _ _ (s .most)))
+    (and-intro (and-intro (le-leb _ _ (s .limitSome)) (le-leb _ _ (s .limitMost)))
+    (and-intro (s .journal)
+    (and-intro (le-leb _ _ (s .currentIn)) (allWindows-of _ (p .windows) (λ w h. windowShape-of _ _ _ (s .windows w h))))))

@@ -1,0 +1,123 @@
+-- The laws of Start: when it is answered 0, what it then makes, and that a refusal changes nothing.
+use Prim.Native.Nat.{ℕ, zero, suc, _+_, _≤_, _<_}
+use mathlib.Core.Path.{_≡_, refl}
+use mathlib.Core.List.{List, [], _∷_, map}
+use mathlib.Core.Bool.{Bool, true, false, not, cond, _&&_}
+use native.Mathlib.Omega.{arith}
+use native.Mathlib.Nat.{min-le-left, min-le-right}
+use borrow.Author.Tests.{eqb-true, leb-true, eq-eqb, le-leb}
+use lib.ListN.{length, getD}
+use lib.Dec.{leb, eqb}
+use Rattle.journal.specs.declared.Entry.{Entry}
+use Rattle.journal.specs.Cases.{and-left, and-right, and-intro}
+use Rattle.journal.specs.Entry.{inShape, entriesOf}
+use Rattle.rules.specs.View.{PlayerView}
+use Rattle.rules.specs.Shape.{countFits, limitFits}
+use Rattle.rules.specs.Window.{isReport, started}
+use Rattle.rules.specs.Rules.{Outcome, refuse, windowAt, areReports, least, startRule}
+
+-- ------------------------------------------------------------------------
+-- least
+
+pub least-le : (rs : List ℕ) (i : ℕ) → i < length rs → least rs ≤ getD rs i 0
+unfolding least
+least-le [] i h = absurd (omega arith)
+least-le (r ∷ []) zero h = omega arith
+least-le (r ∷ []) (suc i) h = absurd (omega arith)
+least-le (r ∷ s ∷ rs) zero h = min-le-left r _
+least-le (r ∷ s ∷ rs) (suc i) h = omega (arith, min-le-right r (least (s ∷ rs)), least-le (s ∷ rs) i (omega arith))
+
+pub least-some : (b : ℕ) (rs : List ℕ) → ((i : ℕ) → i < length rs → getD rs i 0 ≤ b) → least rs ≤ b
+unfolding least
+least-some b [] h = omega arith
+least-some b (r ∷ rs) h = omega (arith, least-le (r ∷ rs) 0 (omega arith), h 0 (omega arith))
+
+-- ------------------------------------------------------------------------
+-- areReports
+
+pub areReports-le : (j : List Entry) (w : ℕ) (rs : List ℕ) → areReports j w rs ≡ true → (i : ℕ) → i < length rs → getD rs i 0 ≤ length j
+unfolding areReports
+areReports-le j w [] e i h = absurd (omega arith)
+areReports-le j w (r ∷ rs) e zero h = leb-true _ _ (and-left (leb r (length j)) _ (and-left (leb r (length j) && isReport j w r) _ e))
+areReports-le j w (r ∷ rs) e (suc i) h = areReports-le j (suc w) rs (and-right (leb r (length j) && isReport j w r) _ e) i (omega arith)
+
+pub areReports-at : (j : List Entry) (w : ℕ) (rs : List ℕ) → areReports j w rs ≡ true → (i : ℕ) → i < length rs → isReport j (w + i) (getD rs i 0) ≡ true
+unfolding areReports
+areReports-at j w [] e i h = absurd (omega arith)
+areReports-at j w (r ∷ rs) e zero h =
+    let n : w + 0 ≡ w = omega arith in
+    rw n (and-right (leb r (length j)) _ (and-left (leb r (length j) && isReport j w r) _ e))
+areReports-at j w (r ∷ rs) e (suc i) h =
+    let n : w + suc i ≡ suc w + i = omega arith in
+    rw n (areReports-at j (suc w) rs (and-right (leb r (length j) && isReport j w r) _ e) i (omega arith))
+
+-- ------------------------------------------------------------------------
+-- Start
+
+-- the player after a Start that is answered 0
+abbrev pub startNext : ℕ → List ℕ → PlayerView
+startNext limit reports = record { limit = limit; current = least reports; windows = map started reports }
+
+pub startNext-at : (limit : ℕ) (reports : List ℕ) (w : ℕ) → w < length reports → windowAt w (startNext limit reports) ≡ started (getD reports w 0)
+startNext-at limit [] w h = absurd (omega arith)
+startNext-at limit (r ∷ rs) zero h = refl
+startNext-at limit (r ∷ rs) (suc w) h = startNext-at limit rs w (omega arith)
+
+-- what a Start that can be answered 0 is given
+pub record Startable (ns : List ℕ) (count limit : ℕ) (reports : List ℕ) : Type 0 where
+  pub some : 1 ≤ count
+  pub most : count ≤ 16
+  pub limitSome : 1 ≤ limit
+  pub limitMost : limit ≤ 32
+  pub journal : inShape ns ≡ true
+  pub each : length reports ≡ count
+  pub right : areReports (entriesOf ns) 0 reports ≡ true
+
+pub record StartDone (ns : List ℕ) (count limit : ℕ) (reports : List ℕ) (o : Outcome) : Type 0 where
+  pub given : Startable ns count limit reports
+  pub next : o .next ≡ startNext limit reports
+
+module _ (ns : List ℕ) (count limit : ℕ) (reports : List ℕ) (p : PlayerView) where
+  pub startRule-cases : (P : Outcome → Type 0) → P (refuse 1 p) → P (refuse 13 p) →
+      (Startable ns count limit reports → P (record { answer = 0; next = startNext limit reports })) → P (startRule ns count limit reports p)
+  unfolding startRule
+  startRule-cases P one thirteen done =
+      go (countFits count && (limitFits limit && (inShape ns && eqb (length reports) count))) refl (areReports (entriesOf ns) 0 reports) refl
+    where
+      go : (s : Bool) → (countFits count && (limitFits limit && (inShape ns && eqb (length reports) count))) ≡ s →
+          (b : Bool) → areReports (entriesOf ns) 0 reports ≡ b →
+          P (cond (not s) (refuse 1 p) (cond (not b) (refuse 13 p) (record { answer = 0; next = startNext limit reports })))
+      go true s true b =
+          let c = and-left (countFits count) _ s in
+          let s₁ = and-right (countFits count) _ s in
+          let l = and-left (limitFits limit) _ s₁ in
+          let s₂ = and-right (limitFits limit) _ s₁ in
+          done
+          (record {
+            some = leb-true _ _ (and-left (leb 1 count) _ c);
+            most = leb-true _ _ (and-right (leb 1 count) _ c);
+            limitSome = leb-true _ _ (and-left (leb 1 limit) _ l);
+            limitMost = leb-true _ _ (and-right (leb 1 limit) _ l);
+            journal = and-left (inShape ns) _ s₂;
+            each = eqb-true _ _ (and-right (inShape ns) _ s₂);
+            right = b;
+          })
+      go true s false b = thirteen
+      go false s t b = one
+
+  pub startRule-done : startRule ns count limit reports p .answer ≡ 0 → StartDone ns count limit reports (startRule ns count limit reports p)
+  startRule-done =
+      startRule-cases (λ o. o .answer ≡ 0 → StartDone ns count limit reports o) (λ e. absurd (omega arith)) (λ e. absurd (omega arith))
+      (λ g e. record { given = g; next = refl })
+
+  pub startRule-refuses : (startRule ns count limit reports p .answer ≡ 0 → ⊥) → startRule ns count limit reports p .next ≡ p
+  startRule-refuses =
+      startRule-cases (λ o. (o .answer ≡ 0 → ⊥) → o .next ≡ p) (λ n. refl) (λ n. refl) (λ g n. absurd (n refl))
+
+  pub startRule-can : Startable ns count limit reports → startRule ns count limit reports p ≡ record { answer = 0; next = startNext limit reports }
+  unfolding startRule
+  startRule-can g =
+      let fits : (countFits count && (limitFits limit && (inShape ns && eqb (length reports) count))) ≡ true =
+      and-intro (and-intro (le-leb _ _ (g .some)) (le-leb _ _ (g .most)))
+      (and-intro (and-intro (le-leb _ _ (g .limitSome)) (le-leb _ _ (g .limitMost))) (and-intro (g .journal) (eq-eqb _ _ (g .each)))) in
+      rw (fits, g .right)
