@@ -1,22 +1,21 @@
 -- How many steps change anything since the last fault or append: each lowers the work left, which is at most L × (1 + 5 × W).
 use Prim.Native.Nat.{ℕ, zero, suc, _+_, _*_, _-_, _≤_, _<_}
 use mathlib.Core.Path.{_≡_, refl, sym, ap, ap₂, subst, subst⁻¹, _∙_}
-use mathlib.Core.Logic.{_⊎_, inl, inr, ⊎-elim}
-use mathlib.Core.List.{List, [], _∷_, _++_}
-use mathlib.Core.Bool.{Bool, true, false, cond, true≢false, false≢true}
+use mathlib.Core.Logic.{_⊎_, inl, inr}
+use mathlib.Core.List.{List, [], _∷_}
+use mathlib.Core.Bool.{Bool, true, false, cond}
 use native.Mathlib.Omega.{arith}
 use native.Mathlib.Nat.{mul-add, mul-one, mul-suc, mul-assoc, mul-comm}
-use lib.ListN.{length, getD, set, length-append}
+use lib.ListN.{length, getD, set}
 use Rattle.journal.specs.declared.Entry.{Entry}
-use Rattle.journal.specs.Cases.{true-or-false}
 use Rattle.rules.specs.View.{State, normal, fetching, completed, suspended}
-use Rattle.delivery.specs.World.{Place, World, noPlace, placeAt, withPlace, Step, step, run}
+use Rattle.delivery.specs.World.{Place, World, noPlace, placeAt, Step, step, run}
 use Rattle.delivery.specs.Same.{sameWorld}
 use Rattle.delivery.specs.SameLaws.{sameWorld-itself}
-use Rattle.delivery.specs.Statement.{isDone, begins, changes}
-use Rattle.delivery.specs.Invariant.{Inv, Reached, Queues, FetchingQueues, lastOf}
+use Rattle.delivery.specs.Statement.{begins, changes}
+use Rattle.delivery.specs.Invariant.{Inv, Reached, Queues, FetchingQueues}
 use Rattle.delivery.specs.Measure.{ahead, busyOf, placeWork, main-work, worked-lowers}
-use Rattle.delivery.specs.Effects.{Mained, Work, stays, mains, works, Restarted, Facts, working, dropping, joining, starting, appending}
+use Rattle.delivery.specs.Effects.{Work, stays, mains, works, Facts, working, dropping, joining, starting, appending}
 use Rattle.delivery.specs.SteppedAll.{step-facts}
 use Rattle.delivery.specs.Worlds.{withPlace-count}
 use Rattle.delivery.specs.Reach.{read-in, few-in, reached-step}

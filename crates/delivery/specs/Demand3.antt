@@ -1,9 +1,9 @@
 -- Demand 3 holds.
-use Prim.Native.Nat.{ℕ, zero, suc, _+_, _*_, _≤_, _<_}
+use Prim.Native.Nat.{ℕ, _+_, _*_, _≤_, _<_}
 use mathlib.Core.Path.{_≡_, refl, sym, ap, subst, subst⁻¹, _∙_}
-use mathlib.Core.Logic.{_⊎_, inl, inr}
+use mathlib.Core.Logic.{inr}
 use mathlib.Core.List.{List, [], _∷_, _++_, map, map-append}
-use mathlib.Core.Bool.{Bool, true, false, not, false≢true}
+use mathlib.Core.Bool.{true, not, false≢true}
 use native.Mathlib.Omega.{arith}
 use native.Mathlib.Nat.{le-refl}
 use lib.ListN.{length, getD, take, replicate, length-map, length-replicate, getD-replicate, List·getD-map}
@@ -20,7 +20,7 @@ use Rattle.rules.specs.Window.{isSuspended, started}
 use Rattle.rules.specs.Rules.{windowAt, least}
 use Rattle.rules.specs.Starts.{StartDone, startRule-done, startNext-at, least-some}
 use Rattle.rules.specs.Kept.{start-keeps}
-use Rattle.delivery.specs.World.{Place, World, noPlace, placeAt, numbersIn, playerIn, newPlace, opened, Step, run}
+use Rattle.delivery.specs.World.{Place, World, placeAt, playerIn, newPlace, opened, Step, run}
 use Rattle.delivery.specs.Statement.{changes, Leading, Delivers, firstStart, Demand3}
 use Rattle.delivery.specs.Invariant.{Inv, Reached, lastOf, endsOf}
 use Rattle.delivery.specs.Reach.{reached-run}

@@ -1,12 +1,11 @@
 -- What a step does, said once: nothing, Main at every window, the work of one window, or a fault or an append.
-use Prim.Native.Nat.{ℕ, zero, suc, _+_, _≤_, _<_}
+use Prim.Native.Nat.{ℕ, suc, _≤_, _<_}
 use mathlib.Core.Path.{_≡_}
 use mathlib.Core.List.{List, [], _∷_, _++_}
-use mathlib.Core.Bool.{Bool, true, false}
+use mathlib.Core.Bool.{true, false}
 use lib.ListN.{length}
 use Rattle.journal.specs.declared.Entry.{Entry}
 use Rattle.rules.specs.declared.Term.{Term}
-use Rattle.rules.specs.View.{WindowView}
 use Rattle.rules.specs.Shape.{shape}
 use Rattle.rules.specs.Window.{isSuspended, wanted, mainAt, fetched, batchOf, freed, acknowledged, dropped, joined, started}
 use Rattle.rules.specs.Turns.{Caught, SentOut, WrittenOff, AckTaken}

@@ -12,7 +12,7 @@ use Rattle.rules.specs.View.{PlayerView}
 use Rattle.rules.specs.Shape.{windowShape, allWindows, shape}
 use Rattle.rules.specs.Window.{check, enqueue, mainAt, fetched, catchIn, catchAt, readyIn, batchOf, launched, sendAt, writtenAt, struck, ackAt, dropAt, joinAt}
 use Rattle.rules.specs.Rules.{operate, mapWindows, mainRule, catchRule, writtenRule, ackRule, dropRule, joinRule, sendRule, areReports, least, startRule}
-use Rattle.delivery.specs.World.{Place, World, placeAt, withViews, withPlayer, onLine, takeFront, Step, main, catch, written, send, take, ack, drop, join, start, Reply, answered, empty, step, run, opened}
+use Rattle.delivery.specs.World.{World, placeAt, withViews, withPlayer, onLine, takeFront, Step, main, catch, written, send, take, ack, drop, join, start, Reply, answered, empty, step, run, opened}
 
 -- the replies of a list of steps
 unfoldable pub replies : World → List Step → List Reply

@@ -1,19 +1,16 @@
 -- When none can and all windows are joined, every window has taken all of its own entries.
 use Prim.Native.Nat.{ℕ, zero, suc, _+_, _*_, _-_, _≤_, _<_}
 use mathlib.Core.Path.{_≡_, refl, sym, ap, ap₂, subst, subst⁻¹, _∙_}
-use mathlib.Core.Logic.{_⊎_, ⊎-elim}
+use mathlib.Core.Logic.{⊎-elim}
 use mathlib.Core.List.{List, [], _∷_, _++_, map, append-nil}
-use mathlib.Core.Bool.{Bool, true, false, cond, _||_, true≢false, false≢true}
+use mathlib.Core.Bool.{true, false, _||_, true≢false, false≢true}
 use native.Mathlib.Omega.{arith}
-use native.Mathlib.Numerals.{add-one}
 use borrow.Author.Tests.{eq-eqb}
 use lib.ListN.{length, take, replicate, length-replicate}
-use lib.Dec.{eqb}
 use Rattle.journal.specs.Cases.{true-or-false, le-or-lt}
 use Rattle.journal.specs.Entry.{placedAt}
 use Rattle.journal.specs.Due.{due, elem, due-split}
 use Rattle.journal.specs.Own.{own, own-due}
-use Rattle.rules.specs.declared.Term.{Term}
 use Rattle.rules.specs.View.{State, normal, fetching, completed, suspended, WindowView}
 use Rattle.rules.specs.Shape.{isEmpty}
 use Rattle.rules.specs.Shaped.{shaped}
@@ -22,19 +19,17 @@ use Rattle.rules.specs.Rules.{windowAt, ackRule}
 use Rattle.rules.specs.Batches.{batchOf-normal, batchOf-fetching, batchOf-more, batchOf-all}
 use Rattle.rules.specs.Laws.{mainRule-can}
 use Rattle.rules.specs.Cans.{catchRule-can, sendRule-can, writtenRule-can, ackRule-can}
-use Rattle.delivery.specs.World.{Sent, Ack, Place, World, placeAt, numbersIn, playerIn, withPlace, Step, main, catch, written, send, ack, step}
+use Rattle.delivery.specs.World.{Sent, Ack, World, placeAt, numbersIn, playerIn, Step, main, catch, written, send, ack, step}
 use Rattle.delivery.specs.World as W
-use Rattle.delivery.specs.Same.{sameWorld}
 use Rattle.delivery.specs.SameLaws.{PlaceIs, WorldIs, sameWorld-equal}
 use Rattle.delivery.specs.Statement.{isWork, NoneCan}
-use Rattle.delivery.specs.Invariant.{Inv, Reached, Queues, FetchingQueues, CompletedQueues, lastOf, backIndices, lineEntries, endsOf, BackTerms}
+use Rattle.delivery.specs.Invariant.{Reached, Queues, CompletedQueues, lastOf, backIndices, lineEntries, endsOf, BackTerms}
 use Rattle.delivery.specs.Measure.{viewWork, placeWork, worked-lowers}
 use Rattle.delivery.specs.Worlds.{count-in, window-in, windows-in, withPlace-here}
 use Rattle.delivery.specs.Effects.{WorksAt}
 use Rattle.delivery.specs.Stepped.{catch-works, written-works}
 use Rattle.delivery.specs.SteppedLine.{send-works, ack-works, take-works}
 use Rattle.delivery.specs.SteppedAll.{main-moves}
-use Rattle.delivery.specs.KeepCatch.{isEmpty-nil}
 use Rattle.delivery.specs.Reach.{read-in, few-in}
 
 module _ (wd : World) (r : Reached wd) (none : NoneCan wd) where

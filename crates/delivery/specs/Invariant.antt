@@ -1,12 +1,12 @@
 -- The invariant of a run, one window at a time: where the window's own entries are on their way.
-use Prim.Native.Nat.{ℕ, zero, suc, _-_, _≤_, _<_}
+use Prim.Native.Nat.{ℕ, _-_, _≤_, _<_}
 use mathlib.Core.Path.{_≡_}
 use mathlib.Core.Logic.{_⊎_}
 use mathlib.Core.List.{List, [], _∷_, _++_, map}
-use mathlib.Core.Bool.{Bool, true, false, cond}
+use mathlib.Core.Bool.{true, false, cond}
 use lib.ListN.{length}
 use Rattle.journal.specs.declared.Entry.{Entry}
-use Rattle.journal.specs.Entry.{Placed, numbersOf, placedAt}
+use Rattle.journal.specs.Entry.{Placed, placedAt}
 use Rattle.journal.specs.Due.{due, Rising}
 use Rattle.window.specs.Record.{newRecord, takeAll}
 use Rattle.rules.specs.declared.Term.{Term}

@@ -1,7 +1,7 @@
 -- A window is joined, by the steps that were made, exactly if it is not Suspended; and the number of windows never changes.
-use Prim.Native.Nat.{ℕ, zero, suc, _+_, _≤_, _<_}
-use mathlib.Core.Path.{_≡_, refl, sym, ap, subst⁻¹, _∙_}
-use mathlib.Core.Logic.{_⊎_, ⊎-elim}
+use Prim.Native.Nat.{ℕ, suc, _+_, _≤_, _<_}
+use mathlib.Core.Path.{_≡_, refl, sym, ap, _∙_}
+use mathlib.Core.Logic.{⊎-elim}
 use mathlib.Core.List.{List, [], _∷_, _++_}
 use mathlib.Core.Bool.{Bool, true, false, not, cond}
 use native.Mathlib.Omega.{arith}
@@ -9,20 +9,20 @@ use borrow.Author.Tests.{eq-eqb, ne-eqb}
 use lib.ListN.{length}
 use lib.Dec.{eqb, ltb}
 use Rattle.journal.specs.declared.Entry.{Entry}
-use Rattle.journal.specs.Cases.{eq-or-ne, le-or-lt, true-or-false}
-use Rattle.rules.specs.View.{State, normal, fetching, completed, suspended, WindowView}
+use Rattle.journal.specs.Cases.{eq-or-ne, le-or-lt}
+use Rattle.rules.specs.View.{State, normal, fetching, completed, WindowView}
 use Rattle.rules.specs.Shape.{isEmpty}
-use Rattle.rules.specs.Window.{isSuspended, mainAt, fetched, batchOf, launched}
+use Rattle.rules.specs.Window.{isSuspended, mainAt, fetched, batchOf}
 use Rattle.rules.specs.Batches.{StateAfter, batchOf-state}
 use Rattle.rules.specs.Batches as B
 use Rattle.rules.specs.Moves.{oneIf, mainAt-either, fetched-more, fetched-last, launched-is}
-use Rattle.delivery.specs.World.{Place, World, placeAt, withView, withPlace, Step, main, catch, written, send, ack, late-ack, drop, join, start, append, Reply, step, run}
+use Rattle.delivery.specs.World.{Place, World, placeAt, withPlace, Step, main, catch, written, send, ack, late-ack, drop, join, start, append, Reply, step, run}
 use Rattle.delivery.specs.World as W
 use Rattle.delivery.specs.Statement.{isDone, begins, joinedBy, joinedAfter}
 use Rattle.delivery.specs.Invariant.{Inv, Reached, lastOf}
 use Rattle.delivery.specs.KeepLine.{take-place}
 use Rattle.delivery.specs.Worlds.{withPlace-here, withPlace-other, withPlace-count}
-use Rattle.delivery.specs.Effects.{Worked, Mained, Work, stays, mains, works, Restarted, Facts, working, dropping, joining, starting, appending}
+use Rattle.delivery.specs.Effects.{Worked, Work, stays, mains, works, Facts, working, dropping, joining, starting, appending}
 use Rattle.delivery.specs.Effects as E
 use Rattle.delivery.specs.SteppedAll.{step-facts}
 use Rattle.delivery.specs.Reach.{few-in, reached-step}

@@ -1,7 +1,7 @@
 -- Catch keeps the invariant of its window: what is fetched joins the catch-up queue, and past the end the two queues meet.
 use Prim.Native.Nat.{ℕ, zero, suc, _+_, _-_, _≤_, _<_}
 use mathlib.Core.Path.{_≡_, refl, sym, ap, subst, subst⁻¹, _∙_}
-use mathlib.Core.Logic.{_⊎_, inl, inr, ⊎-elim}
+use mathlib.Core.Logic.{inl, ⊎-elim}
 use mathlib.Core.List.{List, [], _∷_, _++_}
 use mathlib.Core.Bool.{Bool, true, false, cond, and-true, false≢true}
 use native.Mathlib.Omega.{arith}
@@ -17,7 +17,7 @@ use Rattle.rules.specs.Window.{isSuspended, requeue, wanted, fetched}
 use Rattle.rules.specs.Moves.{oneIf, fetched-more, fetched-last}
 use Rattle.rules.specs.Turns.{Caught}
 use Rattle.delivery.specs.World.{Place, withView}
-use Rattle.delivery.specs.Invariant.{Inv, Queues, FetchingQueues, CompletedQueues}
+use Rattle.delivery.specs.Invariant.{Inv, Queues, FetchingQueues}
 use Rattle.delivery.specs.KeepMain.{inv-requeue}
 
 pub isEmpty-nil : (q : List ℕ) → isEmpty q ≡ true → q ≡ []

@@ -1,24 +1,23 @@
 -- Drop, Join, Start and an append keep the invariant.
-use Prim.Native.Nat.{ℕ, zero, suc, _+_, _-_, _≤_, _<_}
+use Prim.Native.Nat.{ℕ, _+_, _-_, _≤_, _<_}
 use mathlib.Core.Path.{_≡_, refl, sym, ap, ap₂, subst, subst⁻¹, _∙_}
-use mathlib.Core.Logic.{_⊎_, inl, inr, ⊎-elim}
+use mathlib.Core.Logic.{inr, ⊎-elim}
 use mathlib.Core.List.{List, [], _∷_, _++_, map}
-use mathlib.Core.Bool.{Bool, true, false, cond, _||_, true≢false}
+use mathlib.Core.Bool.{true, false, cond, _||_, true≢false}
 use native.Mathlib.Omega.{arith}
 use native.Mathlib.Nat.{le-refl}
-use borrow.Author.Tests.{lt-ltb, le-ltb, eqb-true}
+use borrow.Author.Tests.{lt-ltb, le-ltb}
 use lib.ListN.{length, length-append}
-use lib.Dec.{eqb, ltb}
+use lib.Dec.{eqb}
 use Rattle.journal.specs.declared.Entry.{Entry}
-use Rattle.journal.specs.Entry.{placedAt, isFor}
-use Rattle.journal.specs.EntryLaws.{entryAt-append, isFor-append, isFor-within}
-use Rattle.journal.specs.Cases.{true-or-false, le-or-lt}
+use Rattle.journal.specs.Entry.{placedAt}
+use Rattle.journal.specs.EntryLaws.{entryAt-append, isFor-append}
+use Rattle.journal.specs.Cases.{le-or-lt}
 use Rattle.journal.specs.Due.{due, Rising, due-empty, due-rising, due-append}
 use Rattle.rules.specs.View.{State, normal, fetching, completed, suspended, WindowView}
 use Rattle.rules.specs.Window.{isSuspended, isReport, dropped, joined, started}
-use Rattle.rules.specs.Turns.{DroppedOff, JoinedOn}
-use Rattle.delivery.specs.World.{Place, withView, withLines, cleared}
-use Rattle.delivery.specs.Invariant.{Inv, Queues, FetchingQueues, CompletedQueues, NoQueues, lastOf, lineEntries, endsOf}
+use Rattle.delivery.specs.World.{Place, withView, cleared}
+use Rattle.delivery.specs.Invariant.{Inv, Queues, NoQueues, lastOf, endsOf}
 
 pub suspended-is : (s : State) → isSuspended s ≡ true → s ≡ suspended
 suspended-is normal e = absurd (true≢false (sym e))

@@ -1,15 +1,14 @@
 -- Written, Ack and Take keep the invariant of their window.
-use Prim.Native.Nat.{ℕ, zero, suc, _+_, _-_, _≤_, _<_}
+use Prim.Native.Nat.{ℕ, _-_, _≤_, _<_}
 use mathlib.Core.Path.{_≡_, refl, sym, ap, ap₂, subst, subst⁻¹, _∙_}
-use mathlib.Core.Logic.{_⊎_, inl, inr, ⊎-elim}
+use mathlib.Core.Logic.{inl, ⊎-elim}
 use mathlib.Core.List.{List, [], _∷_, _++_, map, map-append, append-assoc}
 use mathlib.Core.Bool.{Bool, true, false, cond, _||_, true≢false, or-true}
 use native.Mathlib.Omega.{arith}
-use borrow.Author.Tests.{eq-eqb}
 use lib.ListN.{length, length-map}
 use lib.Dec.{eqb}
 use Rattle.journal.specs.declared.Entry.{Entry}
-use Rattle.journal.specs.Entry.{Placed, placedAt, fiveOf, isFor}
+use Rattle.journal.specs.Entry.{placedAt, fiveOf}
 use Rattle.journal.specs.Due.{due, Rising, due-split, due-length, Begins, due-cons, rising-append, rising-widen}
 use Rattle.window.specs.declared.Record.{Record}
 use Rattle.window.specs.Record.{newRecord, takeEntry, takeNumbers, takeAll}
@@ -21,7 +20,7 @@ use Rattle.rules.specs.Window.{isSuspended, isReport, freed, struck, acknowledg
 use Rattle.rules.specs.Moves.{struck-front}
 use Rattle.rules.specs.Turns.{WrittenOff, AckTaken}
 use Rattle.delivery.specs.World.{Sent, Ack, Place, withView, withLines, takeFront}
-use Rattle.delivery.specs.Invariant.{Inv, Queues, NoQueues, lastOf, backIndices, lineEntries, endsOf, LineTerms, BackTerms}
+use Rattle.delivery.specs.Invariant.{Inv, Queues, lastOf, backIndices, lineEntries, endsOf, LineTerms, BackTerms}
 use Rattle.delivery.specs.Lines.{backTerms-append}
 
 -- queues that are the same in another view of a window that is not Suspended

@@ -1,23 +1,22 @@
 -- Main keeps the invariant of each window: what is read is queued where the window's own, or is still to be fetched.
-use Prim.Native.Nat.{ℕ, zero, suc, _+_, _-_, _≤_, _<_}
+use Prim.Native.Nat.{ℕ, suc, _+_, _-_, _≤_, _<_}
 use mathlib.Core.Path.{_≡_, refl, sym, ap, subst, subst⁻¹, _∙_}
 use mathlib.Core.Logic.{_⊎_, inl, inr, ⊎-elim}
 use mathlib.Core.List.{List, [], _∷_, _++_, append-nil}
-use mathlib.Core.Bool.{Bool, true, false, cond, _&&_, and-true, and-false, true≢false}
+use mathlib.Core.Bool.{Bool, true, false, cond, and-true, and-false, true≢false}
 use native.Mathlib.Omega.{arith}
 use native.Mathlib.Nat.{le-refl}
-use native.Mathlib.Numerals.{add-one}
 use borrow.Author.Tests.{lt-ltb, le-ltb}
 use lib.ListN.{length}
 use Rattle.journal.specs.declared.Entry.{Entry}
 use Rattle.journal.specs.Entry.{isFor}
 use Rattle.journal.specs.Cases.{true-or-false, le-or-lt}
-use Rattle.journal.specs.Due.{due, one, due-empty, due-more}
+use Rattle.journal.specs.Due.{due, due-empty, due-more}
 use Rattle.rules.specs.View.{State, normal, fetching, completed, suspended, WindowView}
 use Rattle.rules.specs.Window.{isSuspended, requeue, wanted, mainAt}
 use Rattle.rules.specs.Moves.{mainAt-other, mainAt-suspended, mainAt-room, mainAt-normal, mainAt-fetching, mainAt-completed}
 use Rattle.delivery.specs.World.{Place, withView}
-use Rattle.delivery.specs.Invariant.{Inv, Queues, FetchingQueues, CompletedQueues, NoQueues}
+use Rattle.delivery.specs.Invariant.{Inv, Queues, FetchingQueues, CompletedQueues}
 
 -- a window whose queues and condition alone change, while `current` may move on
 pub inv-requeue : (j : List Entry) (c c′ w : ℕ) (p : Place) (n q : List ℕ) (s : State) → Inv j c w p → isSuspended (p .view .state) ≡ false →

@@ -1,16 +1,15 @@
 -- Send keeps the invariant of its window: what leaves the queues in front is on the line behind, and sent is where the cut is.
-use Prim.Native.Nat.{ℕ, zero, suc, _+_, _-_, _≤_, _<_}
+use Prim.Native.Nat.{ℕ, zero, suc, _-_, _≤_, _<_}
 use mathlib.Core.Path.{_≡_, refl, sym, ap, ap₂, subst, subst⁻¹, _∙_}
-use mathlib.Core.Logic.{_⊎_, inl, inr, ⊎-elim}
-use mathlib.Core.List.{List, [], _∷_, _++_, map, map-append, append-assoc, append-nil}
-use mathlib.Core.Bool.{Bool, true, false, cond, true≢false, false≢true}
+use mathlib.Core.Logic.{inl, ⊎-elim}
+use mathlib.Core.List.{List, [], _∷_, _++_, map, map-append, append-assoc}
+use mathlib.Core.Bool.{false, true≢false}
 use native.Mathlib.Omega.{arith}
 use native.Mathlib.Nat.{le-refl}
 use lib.ListN.{length, take, drop, take-append-drop}
-use lib.Seq.{take-append-add}
 use Rattle.journal.specs.declared.Entry.{Entry}
 use Rattle.journal.specs.Entry.{placedAt}
-use Rattle.journal.specs.Cases.{true-or-false, le-or-lt}
+use Rattle.journal.specs.Cases.{le-or-lt}
 use Rattle.journal.specs.Due.{due, lastOr, due-empty, due-split, Cut, due-cut}
 use Rattle.rules.specs.View.{State, normal, fetching, completed, suspended, WindowView}
 use Rattle.rules.specs.Shape.{isEmpty}
@@ -19,7 +18,7 @@ use Rattle.rules.specs.Batches.{batchOf-normal, batchOf-fetching, batchOf-more,
 use Rattle.rules.specs.Moves.{launched-is}
 use Rattle.rules.specs.Turns.{SentOut}
 use Rattle.delivery.specs.World.{Place, withView, withLines, onLine}
-use Rattle.delivery.specs.Invariant.{Inv, Queues, FetchingQueues, CompletedQueues, lastOf, backIndices, lineEntries, endsOf}
+use Rattle.delivery.specs.Invariant.{Inv, Queues, FetchingQueues, CompletedQueues, lastOf, backIndices, endsOf}
 use Rattle.delivery.specs.Lines.{lastOr-some, lineTerms-append, endsOf-append, onLine-entries, onLine-terms, onLine-ends}
 
 -- the place after a batch: the window as Send leaves it, and the batch on the line

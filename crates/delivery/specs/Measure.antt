@@ -1,8 +1,8 @@
 -- A number that falls with every piece of work, and how large it can be. It speaks of indices and of no list.
-use Prim.Native.Nat.{ℕ, zero, suc, _+_, _*_, _-_, _≤_, _<_}
-use mathlib.Core.Path.{_≡_, refl, sym, ap, ap₂, subst, subst⁻¹, _∙_}
-use mathlib.Core.Logic.{_⊎_, inl, inr, ⊎-elim}
-use mathlib.Core.List.{List, [], _∷_, _++_}
+use Prim.Native.Nat.{ℕ, suc, _+_, _-_, _≤_, _<_}
+use mathlib.Core.Path.{_≡_, refl, ap, subst, subst⁻¹, _∙_}
+use mathlib.Core.Logic.{⊎-elim}
+use mathlib.Core.List.{List, _∷_, _++_}
 use mathlib.Core.Bool.{Bool, true, false, cond}
 use native.Mathlib.Omega.{arith}
 use lib.ListN.{length}
@@ -12,12 +12,11 @@ use Rattle.journal.specs.Due.{Rising, lastOr}
 use Rattle.rules.specs.View.{State, normal, fetching, completed, suspended, WindowView}
 use Rattle.rules.specs.Shape.{isEmpty}
 use Rattle.rules.specs.Window.{wanted, requeue, mainAt, fetched, batchOf, launched, Batch}
-use Rattle.rules.specs.Turns.{Caught}
 use Rattle.rules.specs.Batches.{StateAfter, same, emptied, batchOf-state, batchOf-kept}
 use Rattle.rules.specs.Moves.{oneIf, mainAt-either, fetched-more, fetched-last, launched-is}
 use Rattle.delivery.specs.World.{Place, withView, takeFront}
 use Rattle.delivery.specs.Invariant.{Inv, Queues, FetchingQueues, CompletedQueues, lastOf, backIndices}
-use Rattle.delivery.specs.KeepSend.{launchedPlace, Launched, keep-send}
+use Rattle.delivery.specs.KeepSend.{Launched, keep-send}
 use Rattle.delivery.specs.KeepLine.{Front, front, take-place, take-last}
 use Rattle.delivery.specs.Effects.{Worked, caught, sent, written, took, acked}
 

@@ -1,9 +1,9 @@
 -- Every world of a run is reached: the beginning is, and each step keeps it.
-use Prim.Native.Nat.{ℕ, zero, suc, _%_, _≤_, _<_}
-use mathlib.Core.Path.{_≡_, refl, sym, ap, ap₂, subst, subst⁻¹, _∙_}
-use mathlib.Core.Logic.{_⊎_, inl, inr, ⊎-elim, _≢_}
-use mathlib.Core.List.{List, [], _∷_, _++_, map}
-use mathlib.Core.Bool.{Bool, true, false}
+use Prim.Native.Nat.{ℕ, suc, _%_, _≤_, _<_}
+use mathlib.Core.Path.{_≡_, refl, ap, subst, subst⁻¹, _∙_}
+use mathlib.Core.Logic.{⊎-elim}
+use mathlib.Core.List.{List, [], _∷_, _++_}
+use mathlib.Core.Bool.{true}
 use native.Mathlib.Omega.{arith}
 use lib.ListN.{length}
 use lib.Dec.{eqb, leb}
@@ -11,19 +11,18 @@ use borrow.Author.Tests.{leb-true}
 use Rattle.journal.specs.declared.Entry.{Entry}
 use Rattle.journal.specs.Cases.{eq-or-ne, and-right}
 use Rattle.journal.specs.Entry.{numbersOf, countOf}
-use Rattle.journal.specs.EntryLaws.{entriesOf-append, entriesOf-numbersOf, numbersOf-length}
 use Rattle.rules.specs.Shape.{shape}
-use Rattle.rules.specs.Shaped.{Shaped, shaped}
+use Rattle.rules.specs.Shaped.{shaped}
 use Rattle.rules.specs.Kept.{append-keeps}
-use Rattle.delivery.specs.World.{Place, World, placeAt, numbersIn, playerIn, withView, withPlace, cleared, Step, step, run}
-use Rattle.delivery.specs.Invariant.{Inv, Reached, lastOf}
+use Rattle.delivery.specs.World.{Place, World, placeAt, numbersIn, playerIn, withPlace, Step, step, run}
+use Rattle.delivery.specs.Invariant.{Inv, Reached}
 use Rattle.delivery.specs.KeepMain.{keep-main}
 use Rattle.delivery.specs.KeepCatch.{keep-catch}
 use Rattle.delivery.specs.KeepSend.{keep-send}
 use Rattle.delivery.specs.KeepLine.{keep-written, keep-ack, keep-take}
 use Rattle.delivery.specs.KeepFault.{keep-drop, keep-join, keep-start, keep-append}
 use Rattle.delivery.specs.Worlds.{count-in, withPlace-here, withPlace-other, withPlace-count}
-use Rattle.delivery.specs.Effects.{Worked, caught, sent, written, took, acked, Mained, Work, stays, mains, works, Restarted, Facts, working, dropping, joining, starting, appending}
+use Rattle.delivery.specs.Effects.{Worked, caught, sent, written, took, acked, Work, stays, mains, works, Restarted, Facts, working, dropping, joining, starting, appending}
 use Rattle.delivery.specs.SteppedAll.{step-facts}
 
 -- ------------------------------------------------------------------------

@@ -1,10 +1,8 @@
 -- Whether two worlds look the same: the player, the records and the lines, and nothing else. Each test decides equality.
-use Prim.Native.Nat.{ℕ}
 use mathlib.Core.List.{List, [], _∷_}
 use mathlib.Core.Bool.{Bool, true, false, not, _&&_}
 use lib.Dec.{eqb}
 use Rattle.journal.specs.declared.Entry.{Entry}
-use Rattle.journal.specs.Entry.{Placed}
 use Rattle.window.specs.declared.Race.{Race}
 use Rattle.window.specs.declared.Record.{Record}
 use Rattle.rules.specs.View.{State, normal, fetching, completed, suspended, WindowView}

@@ -1,18 +1,14 @@
 -- The tests of `Same` decide equality: a thing is the same as itself, and what is the same is equal.
-use Prim.Native.Nat.{ℕ, zero, suc, _≤_, _<_}
-use mathlib.Core.Path.{_≡_, refl, sym, ap, ap₂, _∙_}
+use Prim.Native.Nat.{ℕ, zero, suc}
+use mathlib.Core.Path.{_≡_, refl, sym, ap, ap₂}
 use mathlib.Core.List.{List, [], _∷_}
-use mathlib.Core.Bool.{Bool, true, false, not, _&&_, true≢false, false≢true}
-use native.Mathlib.Omega.{arith}
+use mathlib.Core.Bool.{Bool, true, false, false≢true}
 use borrow.Author.Tests.{eqb-true, eq-eqb}
-use lib.ListN.{length, getD}
+use lib.ListN.{getD}
 use lib.Dec.{eqb}
-use Rattle.journal.specs.declared.Entry.{Entry}
 use Rattle.journal.specs.Cases.{and-left, and-right, and-intro}
-use Rattle.window.specs.declared.Race.{Race}
-use Rattle.window.specs.declared.Record.{Record}
-use Rattle.rules.specs.View.{State, normal, fetching, completed, suspended, WindowView}
-use Rattle.delivery.specs.World.{Sent, Ack, Place, World, noPlace, placeAt}
+use Rattle.rules.specs.View.{normal, fetching, completed, suspended}
+use Rattle.delivery.specs.World.{Place, World, noPlace, placeAt}
 use Rattle.delivery.specs.Same.{sameBool, sameList, sameState, sameWindow, sameRace, sameRecord, sameEntry, sameSent, sameAck, samePlace, sameWorld}
 
 -- a test that is true of equal things, and one that is true of no others

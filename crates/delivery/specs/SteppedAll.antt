@@ -1,33 +1,26 @@
 -- The steps that reach every window: Main, Start and an append; and all steps together.
-use Prim.Native.Nat.{ℕ, zero, suc, _+_, _≤_, _<_}
-use mathlib.Core.Path.{_≡_, refl, sym, ap, ap₂, subst, subst⁻¹, subst₂, _∙_}
-use mathlib.Core.Logic.{_⊎_, inl, inr, ⊎-elim}
-use mathlib.Core.List.{List, [], _∷_, _++_, map}
-use mathlib.Core.Bool.{Bool, true, false, cond, _||_, false≢true}
+use Prim.Native.Nat.{ℕ, suc, _≤_, _<_}
+use mathlib.Core.Path.{_≡_, refl, ap, ap₂, subst, subst⁻¹, _∙_}
+use mathlib.Core.Logic.{⊎-elim}
+use mathlib.Core.List.{List, [], _∷_, map}
+use mathlib.Core.Bool.{true}
 use native.Mathlib.Omega.{arith}
 use native.Mathlib.Numerals.{add-one}
-use borrow.Author.Tests.{eq-eqb, ne-eqb, lt-ltb, le-ltb, lt-leb, ltb-true}
-use lib.ListN.{length, getD, set, length-map, List·getD-map}
-use lib.Dec.{eqb, ltb, leb}
+use borrow.Author.Tests.{eq-eqb, ne-eqb, lt-ltb, le-ltb}
+use lib.ListN.{length, getD, length-map, List·getD-map}
 use Rattle.journal.specs.declared.Entry.{Entry}
-use Rattle.journal.specs.Cases.{eq-or-ne, le-or-lt, true-or-false}
-use Rattle.journal.specs.Entry.{entriesOf}
-use Rattle.rules.specs.declared.Term.{Term}
-use Rattle.rules.specs.View.{WindowView, PlayerView}
+use Rattle.journal.specs.Cases.{eq-or-ne, le-or-lt}
 use Rattle.rules.specs.Shape.{shape}
-use Rattle.rules.specs.Window.{isSuspended, wanted, mainAt, fetched, batchOf, launched, freed, acknowledged, dropped, joined, started}
-use Rattle.rules.specs.Rules.{Outcome, windowAt, withWindow, mainRule, catchRule, writtenRule, ackRule, dropRule, joinRule, sendRule, least, startRule}
-use Rattle.rules.specs.Turns.{Caught, SentOut, WrittenOff, AckTaken}
-use Rattle.rules.specs.Laws.{Operated, catchRule-refuses, catchRule-done, sendRule-refuses, sendRule-done, writtenRule-refuses, writtenRule-done, ackRule-refuses, ackRule-done, dropRule-refuses, dropRule-done, joinRule-refuses, joinRule-done, MainDone, mainRule-done, mainRule-refuses, mainNext-at, mainRule-count}
+use Rattle.rules.specs.Window.{mainAt, started}
+use Rattle.rules.specs.Rules.{Outcome, windowAt, mainRule, least, startRule}
+use Rattle.rules.specs.Laws.{MainDone, mainRule-done, mainRule-refuses, mainNext-at, mainRule-count}
 use Rattle.rules.specs.Starts.{StartDone, startRule-done, startRule-refuses, startNext-at, least-le}
-use Rattle.rules.specs.Kept.{main-keeps, catch-keeps, send-keeps, written-keeps, ack-keeps, drop-keeps, join-keeps, start-keeps}
-use Rattle.delivery.specs.World.{Sent, Ack, Place, World, noPlace, placeAt, numbersIn, playerIn, withView, withLines, withViews, withPlayer, withPlace, onLine, takeFront, Step, main, catch, written, send, ack, late-ack, drop, join, start, append, Reply, answered, Stepped, called, calledThen, launch, takeAtLine, ackAtLine, cleared, reportsIn, step}
+use Rattle.rules.specs.Kept.{main-keeps, start-keeps}
+use Rattle.delivery.specs.World.{Place, World, noPlace, placeAt, numbersIn, playerIn, withView, withViews, withPlayer, Step, main, catch, written, send, ack, late-ack, drop, join, start, append, cleared, reportsIn, step}
 use Rattle.delivery.specs.World as W
 use Rattle.delivery.specs.Invariant.{lastOf}
-use Rattle.delivery.specs.KeepSend.{launchedPlace}
-use Rattle.delivery.specs.Statement.{isDone, begins}
-use Rattle.delivery.specs.Worlds.{entries-in, count-in, window-in, windows-in, withViews-length, withViews-at, withPlayer-same, withPlayer-window, withPlayer-player, withPlace-here, withPlace-count, withPlace-player, withPlace-twice, withWindow-same}
-use Rattle.delivery.specs.Effects.{Worked, Mained, Work, stays, mains, works, Restarted, Facts, working, dropping, joining, starting, appending}
+use Rattle.delivery.specs.Worlds.{entries-in, count-in, window-in, windows-in, withViews-length, withViews-at, withPlayer-same, withPlayer-player}
+use Rattle.delivery.specs.Effects.{Mained, stays, mains, Restarted, Facts, working, starting, appending}
 use Rattle.delivery.specs.Effects as E
 use Rattle.delivery.specs.Stepped.{calledThen-refused, calledThen-done, call-refused, facts-catch, facts-written, facts-late, facts-drop}
 use Rattle.delivery.specs.SteppedLine.{facts-join, facts-send, facts-ack, facts-take}

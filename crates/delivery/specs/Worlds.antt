@@ -1,12 +1,12 @@
 -- Laws of a world's parts: the player in it, a place of it, and what a rule's outcome makes of it.
-use Prim.Native.Nat.{ℕ, zero, suc, _≤_, _<_}
-use mathlib.Core.Path.{_≡_, refl, sym, ap, ap₂, _∙_}
+use Prim.Native.Nat.{ℕ, zero, suc, _<_}
+use mathlib.Core.Path.{_≡_, refl, sym, ap, _∙_}
 use mathlib.Core.Logic.{_≢_}
-use mathlib.Core.List.{List, [], _∷_, _++_, map}
+use mathlib.Core.List.{List, [], _∷_, map}
 use native.Mathlib.Omega.{arith}
 use lib.ListN.{length, getD, set, length-set, length-map, List·getD-map}
 use lib.Seq.{getD-set-same, getD-set-other, set-set, set-getD}
-use Rattle.journal.specs.Entry.{countOf, numbersOf, entriesOf}
+use Rattle.journal.specs.Entry.{countOf, entriesOf}
 use Rattle.journal.specs.EntryLaws.{entriesOf-length, entriesOf-numbersOf}
 use Rattle.rules.specs.View.{WindowView, noWindow, PlayerView}
 use Rattle.rules.specs.Rules.{windowAt, withWindow}

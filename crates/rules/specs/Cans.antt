@@ -1,12 +1,12 @@
 -- When an operation on a window is answered 0: laws that other crates go by.
 use Prim.Native.Nat.{ℕ, _*_, _≤_, _<_}
-use mathlib.Core.Path.{_≡_, refl, ap, _∙_}
+use mathlib.Core.Path.{_≡_, ap, _∙_}
 use mathlib.Core.List.{List}
-use mathlib.Core.Bool.{Bool, true, false}
+use mathlib.Core.Bool.{true, false}
 use lib.ListN.{length}
 use Rattle.journal.specs.Entry.{entriesOf}
 use Rattle.journal.specs.Due.{elem}
-use Rattle.rules.specs.View.{State, fetching, PlayerView}
+use Rattle.rules.specs.View.{fetching, PlayerView}
 use Rattle.rules.specs.Shape.{shape, isEmpty}
 use Rattle.rules.specs.Window.{isSuspended, batchOf}
 use Rattle.rules.specs.Rules.{windowAt, catchRule, sendRule, writtenRule, ackRule}

@@ -1,7 +1,7 @@
 -- Document 01, "Operations of the player": the shape, then the window, then the window's rule. A promise is an equation with one of these.
-use Prim.Native.Nat.{ℕ, zero, suc, _+_, min}
+use Prim.Native.Nat.{ℕ, suc, _+_, min}
 use mathlib.Core.List.{List, [], _∷_, _++_, map}
-use mathlib.Core.Bool.{Bool, true, false, not, cond, _&&_}
+use mathlib.Core.Bool.{Bool, true, not, cond, _&&_}
 use lib.ListN.{length, getD, set, drop}
 use lib.Dec.{leb, ltb, eqb}
 use Rattle.journal.specs.declared.Entry.{Entry}

@@ -1,15 +1,15 @@
 -- Rows of document 01's proved table, computed on the rules.
-use Prim.Native.Nat.{ℕ, zero, suc, _+_}
+use Prim.Native.Nat.{ℕ, zero, suc}
 use mathlib.Core.Path.{_≡_, refl}
 use mathlib.Core.List.{List, [], _∷_, _++_}
-use mathlib.Core.Bool.{Bool, true, false}
-use lib.ListN.{length, replicate, take}
+use mathlib.Core.Bool.{true, false}
+use lib.ListN.{replicate}
 use Rattle.journal.specs.Entry.{entriesOf, numbersOf, entry4, entryAt, hasWindow, isFor}
 use Rattle.queue.specs.Items.{all}
-use Rattle.rules.specs.View.{State, normal, fetching, completed, suspended, WindowView, PlayerView}
+use Rattle.rules.specs.View.{normal, fetching, suspended, WindowView, PlayerView}
 use Rattle.rules.specs.Shape.{windowShape, allWindows, shape}
-use Rattle.rules.specs.Window.{check, enqueue, mainAt, readyIn, batchOf, launched, sendAt, dropAt, joinAt, struck, ackAt, started}
-use Rattle.rules.specs.Rules.{windowAt, operate, mapWindows, mainRule, joinRule, dropRule, sendRule, startRule, batchAt}
+use Rattle.rules.specs.Window.{check, enqueue, mainAt, readyIn, batchOf, launched, sendAt, joinAt}
+use Rattle.rules.specs.Rules.{windowAt, operate, mapWindows, mainRule, joinRule, sendRule, batchAt}
 
 -- n entries, each for window 0
 abbrev pub entriesFor0 : ℕ → List ℕ
@@ -65,8 +65,9 @@ pub row-d : windowAt 0 (mainRule (entriesFor0 128) 128 (oneWindow 127 (queueing 
 unfolding mainRule shape windowShape allWindows all numbersOf countUp mapWindows mainAt enqueue isFor entryAt hasWindow entriesOf
 row-d = refl
 
--- (e) Eight batches out, line free: Send 9
-pub row-e : sendRule (entriesFor0 9) 0 160 (oneWindow 9 (record {
+-- a window with eight batches out, a free line and one more index queued
+abbrev pub outEight : WindowView
+outEight = record {
   term = record { 0 = 1 };
   acked = 0;
   sent = 8;
@@ -75,7 +76,10 @@ pub row-e : sendRule (entriesFor0 9) 0 160 (oneWindow 9 (record {
   normalQueue = 9 ∷ [];
   catchQueue = [];
   state = normal;
-})) .answer ≡ 9
+}
+
+-- (e) Eight batches out, line free: Send 9
+pub row-e : sendRule (entriesFor0 9) 0 160 (oneWindow 9 outEight) .answer ≡ 9
 unfolding sendRule operate shape windowShape allWindows all numbersOf countUp check sendAt
 row-e = refl
 

@@ -1,21 +1,19 @@
 -- What each operation does at one window when it is answered 0, and when it can be. These are the laws that other crates go by.
-use Prim.Native.Nat.{ℕ, zero, suc, _+_, _*_, _-_, _≤_, _<_}
+use Prim.Native.Nat.{ℕ, suc, _*_, _≤_, _<_}
 use mathlib.Core.Path.{_≡_, refl, sym, ap, subst⁻¹, _∙_}
-use mathlib.Core.Logic.{_⊎_, inl, inr, ⊎-elim}
-use mathlib.Core.List.{List, [], _∷_, _++_}
-use mathlib.Core.Bool.{Bool, true, false, not, cond, _&&_, _||_, and-false}
+use mathlib.Core.List.{List}
+use mathlib.Core.Bool.{Bool, true, false, not, _&&_, and-false}
 use native.Mathlib.Omega.{arith}
-use borrow.Author.Tests.{eqb-true, eqb-false, leb-true, leb-false, ltb-true, ltb-false, eq-eqb, ne-eqb, le-leb, lt-leb, lt-ltb, le-ltb, not-true, not-false}
+use borrow.Author.Tests.{eqb-true, leb-false, ltb-false, eq-eqb, lt-leb, le-ltb, not-false}
 use lib.ListN.{length}
-use lib.Dec.{leb, ltb, eqb}
+use lib.Dec.{ltb}
 use Rattle.journal.specs.declared.Entry.{Entry}
-use Rattle.journal.specs.Entry.{isFor}
-use Rattle.journal.specs.Cases.{true-or-false, le-or-lt, and-left, and-right, and-intro, and-other, or-left, or-right}
-use Rattle.journal.specs.Due.{elem, lastOr}
+use Rattle.journal.specs.Cases.{and-other, or-left, or-right}
+use Rattle.journal.specs.Due.{elem}
 use Rattle.rules.specs.declared.Term.{Term}
 use Rattle.rules.specs.View.{State, normal, fetching, completed, suspended, WindowView}
 use Rattle.rules.specs.Shape.{isEmpty}
-use Rattle.rules.specs.Window.{Turn, done, refusal, check, isSuspended, otherTerm, full, wanted, requeue, fetched, catchIn, catchAt, batchOf, launched, sendAt, freed, writtenAt, struck, acknowledged, ackAt, dropped, dropAt, isReport, joined, joinAt}
+use Rattle.rules.specs.Window.{Turn, done, refusal, check, isSuspended, otherTerm, wanted, fetched, catchIn, catchAt, batchOf, launched, sendAt, freed, writtenAt, acknowledged, ackAt, dropped, dropAt, isReport, joined, joinAt}
 
 -- ------------------------------------------------------------------------
 -- check
