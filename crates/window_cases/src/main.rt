@@ -158,16 +158,32 @@ fn slices() {
     let five = [9, 1, 1, 1, 50400];
     let six = [9, 1, 1, 1, 50400, 0];
     let lower = [8, 1, 2, 1, 350];
-    show(b"take of no numbers", window::take(r, &none), 1);
-    show(b"take of 4 numbers", window::take(r, &four), 1);
-    show(b"take of 6 numbers", window::take(r, &six), 1);
-    let taken = show(b"take of 5 numbers", window::take(r, &five), 1);
-    show(b"take of a lower index", window::take(taken, &lower), 1);
-    show(b"take of 4 numbers again", window::take(taken, &four), 1);
+    show(b"take of no numbers", window::take_by_value(r, &none), 1);
+    show(b"take of 4 numbers", window::take_by_value(r, &four), 1);
+    show(b"take of 6 numbers", window::take_by_value(r, &six), 1);
+    let taken = show(b"take of 5 numbers", window::take_by_value(r, &five), 1);
+    show(
+        b"take of a lower index",
+        window::take_by_value(taken, &lower),
+        1,
+    );
+    show(
+        b"take of 4 numbers again",
+        window::take_by_value(taken, &four),
+        1,
+    );
     let mut full = taken;
     full.count = 4294967295;
-    show(b"take of 5 numbers, full", window::take(full, &lower), 1);
-    show(b"take of 6 numbers, full", window::take(full, &six), 1);
+    show(
+        b"take of 5 numbers, full",
+        window::take_by_value(full, &lower),
+        1,
+    );
+    show(
+        b"take of 6 numbers, full",
+        window::take_by_value(full, &six),
+        1,
+    );
 }
 
 fn stamps() {
