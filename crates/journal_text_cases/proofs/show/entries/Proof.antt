@@ -1,0 +1,34 @@
+-- The loop's invariant: `i` is at most the count. The measure is the entries left.
+use Prim.Native.Nat.{_≤_, _-_}
+use borrow.Author.Needs.{needs}
+use Rattle.journal_text_cases.proofs.show.entries.Statement.{statement}
+use Rattle.journal_text_cases.proofs.show.entries.Tie as tie
+
+abbrev Inv-loop : tie.InvT-loop
+Inv-loop numbers count i₀ i = i ≤ count
+
+abbrev μ-loop : tie.MeasureT-loop
+μ-loop numbers count i₀ i = count - i
+
+loop-holds : tie.Need-loop-holds Inv-loop μ-loop
+loop-holds c = search needs
+
+add-i : tie.Need-add-i Inv-loop μ-loop
+add-i c = search needs
+
+entry-requires : tie.Need-entry-requires Inv-loop μ-loop
+entry-requires c κs = search needs
+
+loop-less : tie.Need-loop-less Inv-loop μ-loop
+loop-less c = search needs
+
+loop-again : tie.Need-loop-again Inv-loop μ-loop
+loop-again c = search needs
+
+returns : tie.Need-returns Inv-loop μ-loop
+returns c = search needs
+
+pub entries-spec : {M : Type 1} → statement M
+entries-spec =
+    tie.close
+    (tie.spec Inv-loop μ-loop loop-holds add-i entry-requires loop-less loop-again returns)

@@ -1,0 +1,2 @@
+-- The proved table of document 01, (a) to (j), as one theorem about the rules.
+pub mod Table
