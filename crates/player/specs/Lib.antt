@@ -1,0 +1,10 @@
+-- The player's state and code: the view of a state, what the calls promise, and laws of both.
+pub mod View
+pub mod Promise
+pub mod Views
+pub mod Stored
+pub mod Guards
+pub mod Sending
+pub mod Shares
+pub mod Starting
+pub mod Overwritten
