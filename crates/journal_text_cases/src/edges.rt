@@ -1,7 +1,5 @@
 // The limits: room in the output, journals out of shape, and 65,535 and 65,536 entry lines.
 use crate::show;
-use journal_text::Reading;
-use journal_text::Writing;
 
 fn read(text: &[u8], numbers: &mut [u32]) {
     let r = journal_text::read(text, numbers);

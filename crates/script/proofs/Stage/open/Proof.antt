@@ -1,0 +1,47 @@
+-- Above 16 windows Start is refused; else it gets as many reports of 0 as there are windows.
+use mathlib.Core.Path.{refl}
+use Rattle.script.specs.Opening.{reports-count, opens-over, opens-start}
+use borrow.Author.Needs.{needs}
+use Rattle.script.proofs.Stage.open.Statement.{statement}
+use Rattle.script.proofs.Stage.open.Tie as tie
+
+blank-requires : tie.Need-blank-requires
+blank-requires c κs = search needs
+
+around-requires : tie.Need-around-requires
+around-requires c κs = search needs
+
+returns : tie.Need-returns
+returns c = opens-over _ _ _ (c .before .if1 .taken)
+
+array-share-prefix-reports : tie.Need-array-share-prefix-reports
+array-share-prefix-reports c = search needs
+
+slice-aggregate-start : tie.Need-slice-aggregate-start
+slice-aggregate-start c = reports-count _ (c .before .if1 .left)
+
+start-requires : tie.Need-start-requires
+start-requires c κs = search needs
+
+number-of-requires : tie.Need-number-of-requires
+number-of-requires c κs = search needs
+
+around-requires-2 : tie.Need-around-requires-2
+around-requires-2 c κs = search needs
+
+returns-2 : tie.Need-returns-2
+returns-2 c = rw (c .around2 .ensures, c .before .number-of .ensures) (opens-start _ _ _ _ _ (c .before .before .before .before .before .if1 .left) refl (c .before .before .before .start .ensures))
+
+pub open-spec : {M : Type 1} → statement M
+open-spec =
+    tie.close
+    (tie.spec
+    blank-requires
+    around-requires
+    returns
+    array-share-prefix-reports
+    slice-aggregate-start
+    start-requires
+    number-of-requires
+    around-requires-2
+    returns-2)

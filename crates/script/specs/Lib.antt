@@ -1,0 +1,12 @@
+-- A script's stage as a world of `delivery`, and its steps as steps of that world.
+pub mod Stage
+pub mod Promise
+pub mod Stored
+pub mod Places
+pub mod Worlds
+pub mod Terms
+pub mod Calls
+pub mod Settled
+pub mod Sends
+pub mod Opening
+pub mod Room

@@ -1,0 +1,119 @@
+-- The beginning of a run: what opening a stage promises, and its laws.
+use Prim.Native.Nat.{ℕ, zero, suc, _+_, _≤_, _<_}
+use mathlib.Core.Path.{_≡_, refl, sym, ap, ap₂, _∙_}
+use mathlib.Core.List.{List, [], _∷_, map}
+use mathlib.Core.Bool.{Bool, true, false, not, cond, _&&_, true≢false}
+use native.Mathlib.Omega.{arith}
+use borrow.Author.Tests.{eqb-true, eq-eqb, lt-leb}
+use lib.ListN.{length, take, replicate, length-replicate, length-map}
+use lib.Dec.{eqb, leb}
+use Rattle.journal.specs.declared.Entry.{Entry}
+use Rattle.journal.specs.Cases.{and-left}
+use Rattle.journal.specs.Entry.{inShape, entriesOf, numbersOf}
+use Rattle.queue.specs.Items.{itemsOf, freshQueue}
+use Rattle.queue.specs.Laws.{itemsOf-fresh}
+use Rattle.window.specs.declared.Record.{Record}
+use Rattle.window.specs.Record.{newRecord}
+use Rattle.player.specs.declared.Player.{Player}
+use Rattle.player.specs.declared.Played.{Played}
+use Rattle.rules.specs.View.{WindowView, PlayerView}
+use Rattle.player.specs.View.{playerOf}
+use Rattle.rules.specs.Shape.{countFits, limitFits}
+use Rattle.rules.specs.Window.{started}
+use Rattle.rules.specs.Rules.{Outcome, refuse, areReports, least, startRule}
+use Rattle.rules.specs.Starts.{startNext, startRule-cases, startRule-done}
+use Rattle.player.specs.Promise.{numberOf, Keeps}
+use Rattle.delivery.specs.World.{World, newPlace, opened}
+use Rattle.delivery.specs.Statement.{firstStart}
+use Rattle.script.specs.declared.Track.{Track}
+use Rattle.script.specs.declared.Stage.{Stage}
+use Rattle.script.specs.declared.Opened.{Opened}
+use Rattle.script.specs.Stage.{placeOf, placesOf, worldOf}
+use Rattle.script.specs.Places.{numbersOf-entriesOf}
+
+-- empty lines
+abbrev pub freshTrack : Track
+freshTrack = record { line = freshQueue; back = freshQueue }
+
+-- The stage is opened where the first Start is answered 0, and is then the world after it, whatever a player held before
+pub record Opens (ns : List ℕ) (count : ℕ) (r : Opened) : Type 0 where
+  pub ok : (before : PlayerView) → r .ok ≡ eqb (startRule ns count 2 (replicate count 0) before .answer) 0
+  pub world : (before : PlayerView) → r .ok ≡ true → worldOf (entriesOf ns) (r .stage) ≡ opened (entriesOf ns) (firstStart before (entriesOf ns) count 2)
+
+-- ------------------------------------------------------------------------
+-- placesOf
+
+-- new records and empty lines
+placesOf-new : (j : List Entry) (n : ℕ) (vs : List WindowView) → length vs ≤ n → placesOf j vs (replicate n newRecord) (replicate n freshTrack) ≡ map newPlace vs
+unfolding placesOf
+placesOf-new j n [] h = refl
+placesOf-new j zero (v ∷ vs) h = absurd (omega arith)
+placesOf-new j (suc n) (v ∷ vs) h =
+    ap₂ _∷_ (ap (λ xs. placeOf j v newRecord xs xs) itemsOf-fresh) (placesOf-new j n vs (omega arith))
+
+-- ------------------------------------------------------------------------
+-- startRule
+
+-- what the player held before is not read
+startRule-answer : (ns : List ℕ) (count limit : ℕ) (reports : List ℕ) (p q : PlayerView) → startRule ns count limit reports p .answer ≡ startRule ns count limit reports q .answer
+unfolding startRule
+startRule-answer ns count limit reports p q =
+    go (not (countFits count && (limitFits limit && (inShape ns && eqb (length reports) count)))) (not (areReports (entriesOf ns) 0 reports))
+  where
+    go : (a b : Bool) → cond a (refuse 1 p) (cond b (refuse 13 p) (record { answer = 0; next = startNext limit reports })) .answer
+        ≡ cond a (refuse 1 q) (cond b (refuse 13 q) (record { answer = 0; next = startNext limit reports })) .answer
+    go true b = refl
+    go false true = refl
+    go false false = refl
+
+-- more windows than 16 are refused
+startRule-over : (ns : List ℕ) (count limit : ℕ) (reports : List ℕ) (p : PlayerView) → 16 < count → startRule ns count limit reports p ≡ refuse 1 p
+unfolding startRule
+startRule-over ns count limit reports p h = go (leb 1 count)
+  where
+    go : (b : Bool) → cond (not ((b && leb count 16) && (limitFits limit && (inShape ns && eqb (length reports) count)))) (refuse 1 p)
+        (cond (not (areReports (entriesOf ns) 0 reports)) (refuse 13 p) (record { answer = 0; next = startNext limit reports })) ≡ refuse 1 p
+    go true = rw (lt-leb count 16 h)
+    go false = refl
+
+-- ------------------------------------------------------------------------
+-- Opens
+
+replicate-take : (n m x : ℕ) → n ≤ m → take n (replicate m x) ≡ replicate n x
+replicate-take zero m x h = refl
+replicate-take (suc n) zero x h = absurd (omega arith)
+replicate-take (suc n) (suc m) x h = ap (λ l. x ∷ l) (replicate-take n m x (omega arith))
+
+-- the reports of so many windows, as many as there are
+pub reports-count : (n : ℕ) → n ≤ 16 → n ≡ length (take {A = ℕ} n (replicate 16 0))
+reports-count n h = sym (ap length (replicate-take n 16 0 h) ∙ length-replicate n 0)
+
+module _ (ns : List ℕ) (count : ℕ) where
+  pub opens-over : (s : Stage) → 16 < count → Opens ns count (record { ok = false; stage = s })
+  opens-over s h = record {
+    ok = λ before. sym (ap (λ o. eqb (o .answer) 0) (startRule-over ns count 2 (replicate count 0) before h));
+    world = λ before e. absurd (true≢false (sym e));
+  }
+
+  pub opens-start : (p : Player) (r : Played) (reports : List ℕ) → count ≤ 16 → reports ≡ take {A = ℕ} count (replicate 16 0) →
+      Keeps p r (startRule ns count 2 reports (playerOf p)) →
+      Opens ns count (record { ok = eqb (numberOf (r .answer)) 0; stage = record { player = r .player; records = replicate 16 newRecord; tracks = replicate 16 freshTrack } })
+  unfolding worldOf opened
+  opens-start p r reports h e k =
+      let zeros : reports ≡ replicate count 0 = e ∙ replicate-take count 16 0 h in
+      let same : (before : PlayerView) → numberOf (r .answer) ≡ startRule ns count 2 (replicate count 0) before .answer
+      = λ before. k .answer ∙ ap (λ x. startRule ns count 2 x (playerOf p) .answer) zeros ∙ startRule-answer ns count 2 (replicate count 0) (playerOf p) before in
+      record {
+        ok = λ before. ap (λ n. eqb n 0) (same before);
+        world = λ before z.
+            let zero : numberOf (r .answer) ≡ 0 = eqb-true _ _ z in
+            let d = startRule-done ns count 2 reports (playerOf p) (sym (k .answer) ∙ zero) in
+            let f = startRule-done ns count 2 (replicate count 0) before (sym (same before) ∙ zero) in
+            let ns′ = numbersOf-entriesOf ns (eqb-true _ _ (and-left _ _ (d .given .journal))) in
+            ap (λ q. record { journal = entriesOf ns; limit = q .limit; current = q .current; places = placesOf (entriesOf ns) (q .windows) (replicate 16 newRecord) (replicate 16 freshTrack) })
+            (k .next ∙ d .next ∙ ap (startNext 2) zeros)
+            ∙ ap (λ ps. record { journal = entriesOf ns; limit = 2; current = least (replicate count 0); places = ps })
+            (placesOf-new (entriesOf ns) 16 (map started (replicate count 0)) (simp (length-map, length-replicate) h))
+            ∙ ap (λ q. record { journal = entriesOf ns; limit = q .limit; current = q .current; places = map newPlace (q .windows) })
+            (sym (ap (λ x. startRule x count 2 (replicate count 0) before .next) ns′ ∙ f .next));
+      }

@@ -1,0 +1,36 @@
+-- What the stage's step promises.
+use Prim.Native.Nat.{ℕ, _≤_, _<_}
+use mathlib.Core.Path.{_≡_}
+use mathlib.Core.List.{List}
+use mathlib.Core.Bool.{Bool, true, false, _&&_}
+use lib.ListN.{length, getD}
+use Rattle.journal.specs.declared.Entry.{Entry}
+use Rattle.journal.specs.Entry.{inShape, entriesOf}
+use Rattle.queue.specs.Items.{itemsOf}
+use Rattle.delivery.specs.World as W
+use Rattle.script.specs.declared.Stage.{Stage}
+use Rattle.script.specs.declared.Step.{Step}
+use Rattle.script.specs.declared.Reply.the-variants.{Answered}
+use Rattle.script.specs.declared.Stepped.{Stepped}
+use Rattle.script.specs.Stage.{worldOf, forgotten, stepIn, replyOf, noTrack, fits}
+
+-- the journal is in shape, and the stage fits
+abbrev pub playable : List ℕ → Stage → Step → Bool
+playable ns before s = inShape ns && fits before s
+
+-- the same as facts, of window w
+pub record Playable (ns : List ℕ) (s : Stage) (w : ℕ) : Type 0 where
+  pub journal : inShape ns ≡ true
+  pub few : s .player .count ≤ 16
+  pub line : w < s .player .count → length (itemsOf (getD (s .tracks) w noTrack .line)) ≤ 126
+  pub back : w < s .player .count → length (itemsOf (getD (s .tracks) w noTrack .back)) ≤ 127
+
+-- the reply and the next stage are those of the world's step
+pub record Steps (j : List Entry) (before : Stage) (s : Step) (r : Stepped) : Type 0 where
+  pub reply : replyOf (r .reply) ≡ W.step (stepIn (worldOf j before) s) (worldOf j before) .reply
+  pub world : worldOf j (r .stage) ≡ forgotten (W.step (stepIn (worldOf j before) s) (worldOf j before) .world)
+
+-- where the journal is in shape and the stage fits, the step is the world's; where not, the answer is 1 and nothing changes
+pub record Plays (ns : List ℕ) (before : Stage) (s : Step) (r : Stepped) : Type 0 where
+  pub played : playable ns before s ≡ true → Steps (entriesOf ns) before s r
+  pub stuck : playable ns before s ≡ false → r ≡ record { reply = Answered 1; stage = before }

@@ -1,0 +1,421 @@
+// One step of a script: a call of the player or of a window's record, and what it does to the lines.
+use crate::Reply;
+use crate::Stage;
+use crate::Step;
+use crate::Stepped;
+use crate::Track;
+use journal::Index;
+use player::Answer;
+use player::Condition;
+use player::Played;
+use player::Player;
+use queue::Queue;
+use rules::Term;
+use window::Record;
+use window::Taken;
+ghost use Prim.Native.Nat.{_+_, _*_, _/_, _≤_, _<_};
+ghost use mathlib.Core.Path.{_≡_};
+ghost use mathlib.Core.Bool.{true, _&&_};
+ghost use Rattle.journal.specs.Entry.{inShape, entriesOf, placedAt};
+ghost use Rattle.queue.specs.Items.{itemsOf};
+ghost use Rattle.window.specs.Record as Window;
+ghost use Rattle.player.specs.View.{stateOf, playerOf};
+ghost use Rattle.rules.specs.Rules.{windowAt};
+ghost use Rattle.player.specs.Promise.{numberOf};
+ghost use Rattle.script.specs.declared.Step.the-variants.{Main, Catch, Send, Written, Ack, Drop, Join, Take};
+ghost use Rattle.script.specs.Stage.{dueIn, windowOf, roomAt};
+ghost use Rattle.script.specs.Promise.{Playable, Steps, Plays};
+ghost use Rattle.script.specs.Stored.{recordAt, trackAt, SameItems, ackPushed, loadedBy, calledBy, settledBy, tookBy};
+
+// Document 01's number of a player's answer.
+pub fn number_of(answer: Answer) -> u32
+    ensures { λ r. ⌜ r ≡ numberOf answer ⌝ }
+{
+    match answer {
+        Answer::Done => 0,
+        Answer::OutOfShape => 1,
+        Answer::NoSuchWindow => 2,
+        Answer::Suspended => 3,
+        Answer::NothingToRead => 4,
+        Answer::OtherTerm => 5,
+        Answer::OtherIndex => 6,
+        Answer::NothingReady => 7,
+        Answer::LineState => 8,
+        Answer::TooManyBatches => 9,
+        Answer::CatchUpFull => 10,
+        Answer::NoSuchBatch => 11,
+        Answer::NotSuspended => 12,
+        Answer::BadReport => 13,
+        Answer::LastTerm => 14,
+        Answer::OutputTooShort => 17,
+    }
+}
+
+// Document 01's number of a window's answer.
+fn number_taken(answer: window::Answer) -> u32
+    ensures { λ r. ⌜ r ≡ Window.numberOf answer ⌝ }
+{
+    match answer {
+        window::Answer::Done => 0,
+        window::Answer::OutOfShape => 1,
+        window::Answer::Full => 15,
+    }
+}
+
+// The term of window w, or 0 where there is no such window.
+fn term_at(player: Player, w: u32) -> Term
+    requires { ⌜ player .count ≤ 16 ⌝ }
+    ensures { λ r. ⌜ r ≡ windowAt w (playerOf player) .term ⌝ }
+{
+    if player.count <= w {
+        return Term(0);
+    }
+    let at = w as usize;
+    let windows = player.windows;
+    let window = windows[at];
+    let head = window.head;
+    head.term
+}
+
+// The index due in a condition: the next one of Fetching, and 0 in any other.
+fn due_in(condition: Condition) -> Index
+    ensures { λ r. ⌜ r .0 ≡ dueIn (stateOf condition) ⌝ }
+{
+    match condition {
+        Condition::Normal => Index(0),
+        Condition::Fetching { next, end: _ } => next,
+        Condition::Completed { end: _ } => Index(0),
+        Condition::Suspended => Index(0),
+    }
+}
+
+// The index due in window w, or 0 where there is no such window.
+fn due_at(player: Player, w: u32) -> Index
+    requires { ⌜ player .count ≤ 16 ⌝ }
+    ensures { λ r. ⌜ r .0 ≡ dueIn (windowAt w (playerOf player) .state) ⌝ }
+{
+    if player.count <= w {
+        return Index(0);
+    }
+    let at = w as usize;
+    let windows = player.windows;
+    let window = windows[at];
+    let head = window.head;
+    let condition = head.condition;
+    due_in(condition)
+}
+
+// The index after this one, where there is one.
+fn after(index: Index) -> Index
+    ensures { λ r. ⌜ (index .0 < 4294967295 → r .0 ≡ index .0 + 1) ⌝ }
+{
+    if index.0 == 4294967295 {
+        return index;
+    }
+    Index(index.0 + 1)
+}
+
+// The acks on the way back once an entry is taken: one more where it was the last of its batch.
+fn acked(back: Queue, code: u32) -> Queue
+    ensures { λ r. ⌜ itemsOf r ≡ ackPushed code (itemsOf back) ⌝ }
+{
+    if code % 2 == 1 {
+        return back.push(code / 2);
+    }
+    back
+}
+
+// A line with one batch more on it: of one entry where the second index is 0, else of two.
+fn loaded(line: Queue, first: u32, second: u32) -> Queue
+    requires { ⌜ first ≤ 65535 ⌝ }
+    requires { ⌜ second ≤ 65535 ⌝ }
+    ensures { λ r. ⌜ itemsOf r ≡ loadedBy first second (itemsOf line) ⌝ }
+{
+    if second == 0 {
+        return line.push(first * 2 + 1);
+    }
+    let one = line.push(first * 2);
+    one.push(second * 2 + 1)
+}
+
+// The window that a step names, and 0 where it names none.
+fn window_of(step: Step) -> u32
+    ensures { λ r. ⌜ r ≡ windowOf step ⌝ }
+{
+    match step {
+        Step::Main => 0,
+        Step::Catch(w) => w,
+        Step::Send(w) => w,
+        Step::Written(w) => w,
+        Step::Ack(w) => w,
+        Step::Drop(w) => w,
+        Step::Join(w) => w,
+        Step::Take(w) => w,
+    }
+}
+
+impl Stage {
+    // The lines of window w, or empty ones from 16 up.
+    fn track_at(self, w: u32) -> Track
+        ensures { λ r. ⌜ SameItems r (trackAt w self) ⌝ }
+    {
+        if 16 <= w {
+            return Track {
+                line: Queue::new(),
+                back: Queue::new(),
+            };
+        }
+        let at = w as usize;
+        let tracks = self.tracks;
+        tracks[at]
+    }
+
+    // The record of window w, or a new one where there is no such window.
+    fn record_at(self, w: u32) -> Record
+        requires { ⌜ self .player .count ≤ 16 ⌝ }
+        ensures { λ r. ⌜ r ≡ recordAt w self ⌝ }
+    {
+        let player = self.player;
+        if player.count <= w {
+            return Record::new();
+        }
+        let at = w as usize;
+        let records = self.records;
+        records[at]
+    }
+
+    // Whether there are at most 16 windows, and room on the lines of window w, where it is one of them.
+    fn has_room(self, w: u32) -> bool
+        ensures { λ r. ⌜ r ≡ roomAt self w ⌝ }
+    {
+        let player = self.player;
+        if 16 < player.count {
+            return false;
+        }
+        if player.count <= w {
+            return true;
+        }
+        let track = self.track_at(w);
+        let line = track.line;
+        let back = track.back;
+        if 126 < line.size() {
+            return false;
+        }
+        back.size() <= 127
+    }
+
+    // A call of the player, and nothing else.
+    fn called(self, played: Played) -> Stepped
+        ensures { λ r. ⌜ r ≡ calledBy self played ⌝ }
+    {
+        let player = played.player;
+        let records = self.records;
+        let tracks = self.tracks;
+        let answer = played.answer;
+        Stepped {
+            reply: Reply::Answered(number_of(answer)),
+            stage: Stage {
+                player,
+                records,
+                tracks,
+            },
+        }
+    }
+
+    // A call of the player, and where it is answered 0 other lines for window w.
+    fn settled(self, played: Played, w: u32, track: Track) -> Stepped
+        ensures { λ r. ⌜ r ≡ settledBy self played w track ⌝ }
+    {
+        if 16 <= w {
+            return self.called(played);
+        }
+        let answer = played.answer;
+        if number_of(answer) != 0 {
+            return self.called(played);
+        }
+        let at = w as usize;
+        let mut stage = self;
+        stage.tracks[at] = track;
+        stage.called(played)
+    }
+
+    // A Take at window w, and the lines as it leaves them.
+    fn took(self, taken: Taken, w: u32, track: Track) -> Stepped
+        requires { ⌜ w < 16 ⌝ }
+        ensures { λ r. ⌜ r ≡ tookBy self taken w track ⌝ }
+    {
+        let at = w as usize;
+        let mut stage = self;
+        let record = taken.record;
+        stage.records[at] = record;
+        stage.tracks[at] = track;
+        let answer = taken.answer;
+        Stepped {
+            reply: Reply::Answered(number_taken(answer)),
+            stage,
+        }
+    }
+
+    fn main(self, journal: &[u32]) -> Stepped
+        requires { ⌜ Playable (now journal) self 0 ⌝ }
+        ensures { λ r. ⌜ Steps (entriesOf (now (journal .entry))) self Main r ⌝ }
+    {
+        let player = self.player;
+        let index = after(player.current);
+        self.called(player.main(journal, index))
+    }
+
+    fn catch(self, journal: &[u32], w: u32) -> Stepped
+        requires { ⌜ Playable (now journal) self w ⌝ }
+        ensures { λ r. ⌜ Steps (entriesOf (now (journal .entry))) self (Catch w) r ⌝ }
+    {
+        let player = self.player;
+        let term = term_at(player, w);
+        let index = due_at(player, w);
+        self.called(player.catch(journal, w, term, index))
+    }
+
+    fn written(self, journal: &[u32], w: u32) -> Stepped
+        requires { ⌜ Playable (now journal) self w ⌝ }
+        ensures { λ r. ⌜ Steps (entriesOf (now (journal .entry))) self (Written w) r ⌝ }
+    {
+        let player = self.player;
+        let term = term_at(player, w);
+        self.called(player.written(journal, w, term))
+    }
+
+    fn drop(self, journal: &[u32], w: u32) -> Stepped
+        requires { ⌜ Playable (now journal) self w ⌝ }
+        ensures { λ r. ⌜ Steps (entriesOf (now (journal .entry))) self (Drop w) r ⌝ }
+    {
+        let player = self.player;
+        self.called(player.drop(journal, w))
+    }
+
+    // Join with the window's last index; answered 0, both ways of its line are emptied.
+    fn join(self, journal: &[u32], w: u32) -> Stepped
+        requires { ⌜ Playable (now journal) self w ⌝ }
+        ensures { λ r. ⌜ Steps (entriesOf (now (journal .entry))) self (Join w) r ⌝ }
+    {
+        let player = self.player;
+        let record = self.record_at(w);
+        let report = record.last;
+        let played = player.join(journal, w, report);
+        let track = Track {
+            line: Queue::new(),
+            back: Queue::new(),
+        };
+        self.settled(played, w, track)
+    }
+
+    // Send, lent an output for a batch of two; answered 0, the batch that it wrote goes on the window's line.
+    fn send(self, journal: &[u32], w: u32) -> Stepped
+        requires { ⌜ Playable (now journal) self w ⌝ }
+        ensures { λ r. ⌜ Steps (entriesOf (now (journal .entry))) self (Send w) r ⌝ }
+    {
+        let player = self.player;
+        let track = self.track_at(w);
+        let line = track.line;
+        let back = track.back;
+        let mut out = [0; 10];
+        let played = player.send(journal, w, &mut out);
+        let next = Track {
+            line: loaded(line, out[0], out[5]),
+            back,
+        };
+        self.settled(played, w, next)
+    }
+
+    // Ack with the front ack, which stays on the line if refused.
+    fn ack(self, journal: &[u32], w: u32) -> Stepped
+        requires { ⌜ Playable (now journal) self w ⌝ }
+        ensures { λ r. ⌜ Steps (entriesOf (now (journal .entry))) self (Ack w) r ⌝ }
+    {
+        let player = self.player;
+        if player.count <= w {
+            return Stepped {
+                reply: Reply::Answered(2),
+                stage: self,
+            };
+        }
+        let track = self.track_at(w);
+        let line = track.line;
+        let back = track.back;
+        if back.size() == 0 {
+            return Stepped {
+                reply: Reply::Empty,
+                stage: self,
+            };
+        }
+        let term = term_at(player, w);
+        let index = Index(back.item(0));
+        let played = player.ack(journal, w, term, index);
+        let next = Track {
+            line,
+            back: back.skip(1),
+        };
+        self.settled(played, w, next)
+    }
+
+    // Take of the front entry, which goes off the line; the last of a batch puts an ack on the way back.
+    fn take(self, journal: &[u32], w: u32) -> Stepped
+        requires { ⌜ Playable (now journal) self w ⌝ }
+        ensures { λ r. ⌜ Steps (entriesOf (now (journal .entry))) self (Take w) r ⌝ }
+    {
+        let player = self.player;
+        if player.count <= w {
+            return Stepped {
+                reply: Reply::Answered(2),
+                stage: self,
+            };
+        }
+        let track = self.track_at(w);
+        let line = track.line;
+        let back = track.back;
+        if line.size() == 0 {
+            return Stepped {
+                reply: Reply::Empty,
+                stage: self,
+            };
+        }
+        let code = line.item(0);
+        let index = Index(code / 2);
+        let record = self.record_at(w);
+        let taken = record.fold(index, journal::entry_at(journal, index));
+        let next = Track {
+            line: line.skip(1),
+            back: acked(back, code),
+        };
+        self.took(taken, w, next)
+    }
+}
+
+impl Stage {
+    // One step of a script: Answered(1), with the stage as it was, where the journal is out of shape or the stage does not fit.
+    pub fn step(self, journal: &[u32], step: Step) -> Stepped
+        ensures { λ r. ⌜ Plays (now (journal .entry)) self step r ⌝ }
+    {
+        if !journal::in_shape(journal) {
+            return Stepped {
+                reply: Reply::Answered(1),
+                stage: self,
+            };
+        }
+        if !self.has_room(window_of(step)) {
+            return Stepped {
+                reply: Reply::Answered(1),
+                stage: self,
+            };
+        }
+        match step {
+            Step::Main => self.main(journal),
+            Step::Catch(w) => self.catch(journal, w),
+            Step::Send(w) => self.send(journal, w),
+            Step::Written(w) => self.written(journal, w),
+            Step::Ack(w) => self.ack(journal, w),
+            Step::Drop(w) => self.drop(journal, w),
+            Step::Join(w) => self.join(journal, w),
+            Step::Take(w) => self.take(journal, w),
+        }
+    }
+}
