@@ -1,0 +1,4 @@
+// Runs the script that stands on standard input.
+fn main() {
+    stream::play(0);
+}
