@@ -114,7 +114,7 @@ module _ (before : PlayerView) (j : List Entry) (count limit : ℕ) (done : firs
   unfolding opened
   opened-journal = refl
 
-  opened-reached : Reached (opened j (firstStart before j count limit))
+  pub opened-reached : Reached (opened j (firstStart before j count limit))
   opened-reached = record {
     inShape = subst⁻¹ (λ x. shape (numbersOf x) (playerIn (opened j (firstStart before j count limit))) ≡ true) opened-journal opened-shape;
     each = λ w h.

@@ -1,8 +1,8 @@
 -- The steps that are one call of the player: Main, Catch, Written, Drop, by one law.
-use Prim.Native.Nat.{ℕ, _+_, _≤_, _<_}
+use Prim.Native.Nat.{ℕ, _+_, _<_}
 use mathlib.Core.Path.{_≡_, refl, sym, ap, ap₂, _∙_}
 use mathlib.Core.List.{List}
-use mathlib.Core.Bool.{Bool, true, false, _&&_}
+use mathlib.Core.Bool.{Bool, true, false}
 use native.Mathlib.Omega.{arith}
 use borrow.Author.Tests.{leb-true, lt-leb}
 use lib.ListN.{length}
@@ -19,7 +19,7 @@ use Rattle.rules.specs.Shaped.{shaped}
 use Rattle.player.specs.Guards.{inShape-entries}
 use Rattle.rules.specs.Rules.{Outcome, windowAt, mainRule, catchRule, writtenRule, dropRule}
 use Rattle.player.specs.Promise.{Keeps}
-use Rattle.delivery.specs.World.{placeAt, numbersIn, playerIn, answered, called}
+use Rattle.delivery.specs.World.{numbersIn, playerIn, answered, called}
 use Rattle.delivery.specs.World as W
 use Rattle.script.specs.declared.Stage.{Stage}
 use Rattle.script.specs.declared.Step.{Step}
@@ -28,7 +28,7 @@ use Rattle.script.specs.Stage.{worldOf, forgotten, dueIn, stepIn, window
 use Rattle.script.specs.Promise.{playable, Playable, Steps}
 use Rattle.script.specs.Stored.{trackAt, calledBy}
 use Rattle.script.specs.Places.{termsOf}
-use Rattle.script.specs.Worlds.{playerOf-count, worldOf-numbers, Staged, worldOf-player, worldOf-view, worldOf-called}
+use Rattle.script.specs.Worlds.{worldOf-numbers, Staged, worldOf-player, worldOf-view, worldOf-called}
 use Rattle.script.specs.Terms.{mainRule-terms, catchRule-terms, writtenRule-terms, dropRule-terms}
 
 -- ------------------------------------------------------------------------

@@ -10,3 +10,4 @@ pub mod Settled
 pub mod Sends
 pub mod Opening
 pub mod Room
+pub mod Shown

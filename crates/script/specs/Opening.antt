@@ -1,18 +1,17 @@
 -- The beginning of a run: what opening a stage promises, and its laws.
-use Prim.Native.Nat.{ℕ, zero, suc, _+_, _≤_, _<_}
+use Prim.Native.Nat.{ℕ, zero, suc, _≤_, _<_}
 use mathlib.Core.Path.{_≡_, refl, sym, ap, ap₂, _∙_}
 use mathlib.Core.List.{List, [], _∷_, map}
 use mathlib.Core.Bool.{Bool, true, false, not, cond, _&&_, true≢false}
 use native.Mathlib.Omega.{arith}
-use borrow.Author.Tests.{eqb-true, eq-eqb, lt-leb}
+use borrow.Author.Tests.{eqb-true, lt-leb}
 use lib.ListN.{length, take, replicate, length-replicate, length-map}
 use lib.Dec.{eqb, leb}
 use Rattle.journal.specs.declared.Entry.{Entry}
 use Rattle.journal.specs.Cases.{and-left}
-use Rattle.journal.specs.Entry.{inShape, entriesOf, numbersOf}
-use Rattle.queue.specs.Items.{itemsOf, freshQueue}
+use Rattle.journal.specs.Entry.{inShape, entriesOf}
+use Rattle.queue.specs.Items.{freshQueue}
 use Rattle.queue.specs.Laws.{itemsOf-fresh}
-use Rattle.window.specs.declared.Record.{Record}
 use Rattle.window.specs.Record.{newRecord}
 use Rattle.player.specs.declared.Player.{Player}
 use Rattle.player.specs.declared.Played.{Played}
@@ -20,10 +19,10 @@ use Rattle.rules.specs.View.{WindowView, PlayerView}
 use Rattle.player.specs.View.{playerOf}
 use Rattle.rules.specs.Shape.{countFits, limitFits}
 use Rattle.rules.specs.Window.{started}
-use Rattle.rules.specs.Rules.{Outcome, refuse, areReports, least, startRule}
-use Rattle.rules.specs.Starts.{startNext, startRule-cases, startRule-done}
+use Rattle.rules.specs.Rules.{refuse, areReports, least, startRule}
+use Rattle.rules.specs.Starts.{startNext, startRule-done}
 use Rattle.player.specs.Promise.{numberOf, Keeps}
-use Rattle.delivery.specs.World.{World, newPlace, opened}
+use Rattle.delivery.specs.World.{newPlace, opened}
 use Rattle.delivery.specs.Statement.{firstStart}
 use Rattle.script.specs.declared.Track.{Track}
 use Rattle.script.specs.declared.Stage.{Stage}

@@ -1,6 +1,6 @@
 -- Laws of the places that a stage shows, of a world without its history, and of the journal's numbers.
-use Prim.Native.Nat.{ℕ, zero, suc, _+_, _%_, _≤_, _<_}
-use mathlib.Core.Path.{_≡_, refl, sym, ap, ap₂, _∙_}
+use Prim.Native.Nat.{ℕ, zero, suc, _%_, _≤_, _<_}
+use mathlib.Core.Path.{_≡_, refl, ap, ap₂}
 use mathlib.Core.List.{List, [], _∷_, map}
 use native.Mathlib.Omega.{arith}
 use lib.ListN.{length, getD, set}
@@ -13,7 +13,7 @@ use Rattle.rules.specs.declared.Term.{Term}
 use Rattle.rules.specs.View.{WindowView, PlayerView, noWindow}
 use Rattle.delivery.specs.World.{Place, World, noPlace, withView, withViews, withPlayer, withPlace}
 use Rattle.script.specs.declared.Track.{Track}
-use Rattle.script.specs.Stage.{noTrack, placeOf, placesOf, forget, forgotten}
+use Rattle.script.specs.Stage.{noTrack, sentOf, ackOf, placeOf, placesOf, forget, forgotten}
 
 -- ------------------------------------------------------------------------
 -- numbersOf
@@ -90,7 +90,7 @@ placesOf-with j (u ∷ us) (v ∷ vs) (r ∷ rs) (t ∷ ts) e a b =
     let h : u .term ≡ v .term = cc in
     let rest : termsOf us ≡ termsOf vs = cc in
     ap₂ _∷_
-    (ap (λ x. record { view = u; record′ = r; line = placeOf j (record { term = x; acked = 0; sent = 0; busy = u .busy; batches = []; normalQueue = []; catchQueue = []; state = u .state }) r (itemsOf (t .line)) (itemsOf (t .back)) .line; back = placeOf j (record { term = x; acked = 0; sent = 0; busy = u .busy; batches = []; normalQueue = []; catchQueue = []; state = u .state }) r (itemsOf (t .line)) (itemsOf (t .back)) .back; taken = [] }) h)
+    (ap (λ x. record { view = u; record′ = r; line = map (sentOf j x) (itemsOf (t .line)); back = map (ackOf x) (itemsOf (t .back)); taken = [] }) h)
     (placesOf-with j us vs rs ts rest (omega arith) (omega arith))
 
 -- ------------------------------------------------------------------------

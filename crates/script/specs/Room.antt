@@ -1,28 +1,32 @@
 -- Room on the lines: in every world that a script reaches from an opening with the batch limit 2, a line has at most two entries for each of
 -- its batches, and the batches on it and the acks on the way back are at most 8 together.
-use Prim.Native.Nat.{ℕ, zero, suc, _+_, _*_, _≤_, _<_}
+use Prim.Native.Nat.{ℕ, _+_, _*_, _≤_, _<_}
 use mathlib.Core.Path.{_≡_, refl, sym, ap, subst, subst⁻¹, _∙_}
 use mathlib.Core.Logic.{⊎-elim}
-use mathlib.Core.List.{List, [], _∷_, _++_, map}
+use mathlib.Core.List.{List, [], _∷_, _++_}
 use mathlib.Core.Bool.{Bool, true, false, cond, true≢false, false≢true}
 use native.Mathlib.Omega.{arith}
-use lib.ListN.{length, length-append, length-map}
+use lib.ListN.{length, replicate, length-append, length-map, List·getD-map}
+use lib.Dec.{eqb, ltb}
 use Rattle.journal.specs.declared.Entry.{Entry}
 use Rattle.journal.specs.Cases.{eq-or-ne}
+use Rattle.journal.specs.Entry.{numbersOf, entriesOf}
 use Rattle.rules.specs.declared.Term.{Term}
-use Rattle.rules.specs.View.{WindowView}
-use Rattle.rules.specs.Shape.{isEmpty, shape}
-use Rattle.rules.specs.Window.{batchOf}
-use Rattle.rules.specs.Turns.{SentOut}
-use Rattle.delivery.specs.World.{Sent, Ack, Place, World, placeAt, numbersIn, playerIn, withPlace, onLine, takeFront}
+use Rattle.rules.specs.View.{WindowView, PlayerView, noWindow}
+use Rattle.rules.specs.Window.{batchOf, sendAt, ackAt, joinAt}
+use Rattle.rules.specs.Rules.{Outcome, catchRule, writtenRule, ackRule, dropRule, joinRule, sendRule}
+use Rattle.rules.specs.Laws.{operate-limit, mainRule-cases}
+use Rattle.rules.specs.Starts.{startRule-done}
+use Rattle.delivery.specs.World.{Sent, Ack, Place, World, placeAt, numbersIn, playerIn, withLines, withPlayer, withPlace, onLine, takeFront, answered, calledThen, launch, takeAtLine, ackAtLine, cleared, newPlace, opened}
 use Rattle.delivery.specs.World as W
+use Rattle.delivery.specs.Statement.{firstStart}
 use Rattle.delivery.specs.Invariant.{backIndices, endsOf, Inv, Reached}
 use Rattle.delivery.specs.Lines.{endsOf-append, onLine-ends}
 use Rattle.delivery.specs.Worlds.{withPlace-here, withPlace-other, withPlace-count}
-use Rattle.delivery.specs.KeepSend.{launchedPlace}
-use Rattle.delivery.specs.Effects.{Worked, caught, sent, written, took, acked, Work, stays, mains, works, Facts, working, dropping, joining, starting, appending}
+use Rattle.delivery.specs.Effects.{Worked, caught, sent, written, took, acked, stays, mains, works, Facts, working, dropping, joining, starting, appending}
 use Rattle.delivery.specs.SteppedAll.{step-facts}
 use Rattle.delivery.specs.Reach.{reached-step}
+use Rattle.delivery.specs.Demand3.{opened-reached}
 use Rattle.script.specs.declared.Step.{Step}
 use Rattle.script.specs.declared.Step.the-variants.{Main, Catch, Send, Written, Ack as AckStep, Drop, Join, Take}
 use Rattle.script.specs.Stage.{stepIn}
@@ -115,3 +119,146 @@ worked-roomy j c limit w p p′ few inv r (sent size d e) =
       pairs = pairs-append (p .line) (onLine j (p .view .term) is) (r .pairs) (pairs-batch j (p .view .term) is (omega (arith, batchOf-length limit (p .view))));
       batches = omega (arith, held, ends, d .few);
     })
+
+-- ------------------------------------------------------------------------
+-- a step of a script
+
+-- the steps that a script can make: no late ack, no Start, no append
+abbrev pub scripted : W.Step → Bool
+scripted (W.main i) = true
+scripted (W.catch w t i) = true
+scripted (W.written w t) = true
+scripted (W.send w out) = true
+scripted (W.take w) = true
+scripted (W.ack w) = true
+scripted (W.late-ack w t i) = false
+scripted (W.drop w) = true
+scripted (W.join w) = true
+scripted (W.start b) = false
+scripted (W.append e) = false
+
+pub stepIn-scripted : (wd : World) (s : Step) → scripted (stepIn wd s) ≡ true
+stepIn-scripted wd Main = refl
+stepIn-scripted wd (Catch w) = refl
+stepIn-scripted wd (Send w) = refl
+stepIn-scripted wd (Written w) = refl
+stepIn-scripted wd (AckStep w) = refl
+stepIn-scripted wd (Drop w) = refl
+stepIn-scripted wd (Join w) = refl
+stepIn-scripted wd (Take w) = refl
+
+-- a place replaced
+placed-roomy : (wd : World) (v : ℕ) (p : Place) → v < length (wd .places) → ((w : ℕ) → w < length (wd .places) → RoomyPlace (placeAt w wd)) → RoomyPlace p →
+    (w : ℕ) → w < length (withPlace v p wd .places) → RoomyPlace (placeAt w (withPlace v p wd))
+placed-roomy wd v p l each r w h =
+    ⊎-elim
+    (λ (e : w ≡ v). subst⁻¹ (λ w. RoomyPlace (placeAt w (withPlace v p wd))) e (subst⁻¹ RoomyPlace (withPlace-here v p wd l) r))
+    (λ (n : w ≡ v → ⊥). subst⁻¹ RoomyPlace (withPlace-other v w p wd n) (each w (omega (arith, withPlace-count v p wd))))
+    (eq-or-ne w v)
+
+module _ (wd : World) (s : W.Step) (is : scripted s ≡ true) (r : Roomy wd) where
+  -- the same at every place of the next world
+  abbrev After : World → Type 0
+  After x = (w : ℕ) → w < length (x .places) → RoomyPlace (placeAt w x)
+
+  -- where the place of one window is replaced
+  after-place : (v : ℕ) (p : Place) (x : World) → v < length (wd .places) → x ≡ withPlace v p wd → RoomyPlace p → After x
+  after-place v p x l e q = subst⁻¹ After e (placed-roomy wd v p l (r .each) q)
+
+  roomy-facts : Facts s wd → After (W.step s wd .world)
+  unfolding endsOf
+  roomy-facts (working quiet (stays e)) = subst⁻¹ After e (r .each)
+  roomy-facts (working quiet (mains m)) =
+      λ w h.
+      let q = r .each w (omega (arith, m .count)) in
+      subst⁻¹ RoomyPlace (m .each w (omega (arith, m .count))) (record { pairs = q .pairs; batches = q .batches })
+  roomy-facts (working quiet (works v l p work e shaped)) =
+      after-place v p _ l e (worked-roomy (wd .journal) (wd .current) (wd .limit) v (placeAt v wd) p (r .limit) (r .reached .each v l) (r .each v l) work)
+  roomy-facts (dropping v same done l e shaped) =
+      let q = r .each v l in
+      after-place v _ _ l e (record { pairs = q .pairs; batches = q .batches })
+  roomy-facts (joining v same done l away e shaped) = after-place v _ _ l e (record { pairs = none; batches = omega arith })
+  roomy-facts (starting b same done k) = absurd (true≢false (sym is ∙ ap scripted same))
+  roomy-facts (appending x same done few e) = absurd (true≢false (sym is ∙ ap scripted same))
+
+-- ------------------------------------------------------------------------
+-- the batch limit
+
+calledThen-limit : (o : Outcome) (f : World → World) (wd : World) → ((x : World) → f x .limit ≡ x .limit) → calledThen o f wd .world .limit ≡ o .next .limit
+unfolding withPlayer
+calledThen-limit o f wd same = by (eqb (o .answer) 0)
+  where
+    by : (b : Bool) → cond b (f (withPlayer (o .next) wd)) (withPlayer (o .next) wd) .limit ≡ o .next .limit
+    by true = same (withPlayer (o .next) wd)
+    by false = refl
+
+take-limit : (w : ℕ) (l : List Sent) (wd : World) (b : Bool) → cond b (takeAtLine w l wd) (W.stays (answered 2) wd) .world .limit ≡ wd .limit
+take-limit w l wd false = refl
+take-limit w [] wd true = refl
+take-limit w (s ∷ l) wd true = refl
+
+ack-limit : (w : ℕ) (l : List Ack) (wd : World) (b : Bool) → cond b (ackAtLine w l wd) (W.stays (answered 2) wd) .world .limit ≡ wd .limit
+unfolding ackRule
+ack-limit w l wd false = refl
+ack-limit w [] wd true = refl
+ack-limit w (a ∷ l) wd true =
+    calledThen-limit (ackRule (numbersIn wd) w (a .term) (a .index) (playerIn wd)) (λ x. withPlace w (withLines (placeAt w x .line) l (placeAt w x)) x) wd (λ x. refl)
+    ∙ operate-limit (numbersIn wd) w (λ v. ackAt (a .term) (a .index) v) (playerIn wd)
+
+step-limit : (wd : World) (s : W.Step) → scripted s ≡ true → W.step s wd .world .limit ≡ wd .limit
+unfolding W.step withPlayer catchRule writtenRule dropRule joinRule sendRule
+step-limit wd (W.main i) e =
+    mainRule-cases (numbersIn wd) i (playerIn wd) (λ o. o .next .limit ≡ wd .limit) refl refl refl (λ s h n. refl)
+step-limit wd (W.catch w t i) e = operate-limit (numbersIn wd) w _ (playerIn wd)
+step-limit wd (W.written w t) e = operate-limit (numbersIn wd) w _ (playerIn wd)
+step-limit wd (W.send w out) e =
+    calledThen-limit (sendRule (numbersIn wd) w (length out) (playerIn wd)) (launch w wd) wd (λ x. refl)
+    ∙ operate-limit (numbersIn wd) w (λ v. sendAt (wd .limit) (length out) v) (playerIn wd)
+step-limit wd (W.take w) e = take-limit w (placeAt w wd .line) wd (ltb w (length (wd .places)))
+step-limit wd (W.ack w) e = ack-limit w (placeAt w wd .back) wd (ltb w (length (wd .places)))
+step-limit wd (W.late-ack w t i) e = absurd (false≢true e)
+step-limit wd (W.drop w) e = operate-limit (numbersIn wd) w _ (playerIn wd)
+step-limit wd (W.join w) e =
+    calledThen-limit (joinRule (numbersIn wd) w (placeAt w wd .record′ .last .0) (playerIn wd)) (λ x. withPlace w (cleared (placeAt w x)) x) wd (λ x. refl)
+    ∙ operate-limit (numbersIn wd) w (λ v. joinAt (entriesOf (numbersIn wd)) w (wd .current) (placeAt w wd .record′ .last .0) v) (playerIn wd)
+step-limit wd (W.start b) e = absurd (false≢true e)
+step-limit wd (W.append x) e = absurd (false≢true e)
+
+-- ------------------------------------------------------------------------
+-- a script
+
+pub roomy-step : (wd : World) (s : Step) → Roomy wd → Roomy (W.step (stepIn wd s) wd .world)
+roomy-step wd s r = record {
+  reached = reached-step wd (stepIn wd s) (r .reached);
+  limit = rw (step-limit wd (stepIn wd s) (stepIn-scripted wd s)) (r .limit);
+  each = roomy-facts wd (stepIn wd s) (stepIn-scripted wd s) r (step-facts wd (r .reached .inShape) (stepIn wd s));
+}
+
+-- the world after a script
+unfoldable pub played : World → List Step → World
+played wd [] = wd
+played wd (s ∷ ss) = played (W.step (stepIn wd s) wd .world) ss
+
+pub roomy-played : (wd : World) (ss : List Step) → Roomy wd → Roomy (played wd ss)
+unfolding played
+roomy-played wd [] r = r
+roomy-played wd (s ∷ ss) r = roomy-played (W.step (stepIn wd s) wd .world) ss (roomy-step wd s r)
+
+roomy-new : (v : WindowView) → RoomyPlace (newPlace v)
+unfolding endsOf
+roomy-new v = record { pairs = none; batches = omega arith }
+
+-- the opening: a reachable world with the batch limit 2 and empty lines
+pub roomy-opened : (before : PlayerView) (j : List Entry) (count : ℕ) → firstStart before j count 2 .answer ≡ 0 → Roomy (opened j (firstStart before j count 2))
+unfolding opened
+roomy-opened before j count done = record {
+  reached = opened-reached before j count 2 done;
+  limit =
+      let d : firstStart before j count 2 .next .limit ≡ 2 = ap (λ q. q .limit) (startRule-done (numbersOf j) count 2 (replicate count 0) before done .next) in
+      rw d (omega arith);
+  each = λ w h. subst⁻¹ RoomyPlace (List·getD-map newPlace (firstStart before j count 2 .next .windows) w noWindow) (roomy-new _);
+}
+
+-- in every world that a script reaches from there, each line has room
+pub room : (before : PlayerView) (j : List Entry) (count : ℕ) → firstStart before j count 2 .answer ≡ 0 → (ss : List Step) → Roomy (played (opened j (firstStart before j count 2)) ss)
+room before j count done ss = roomy-played (opened j (firstStart before j count 2)) ss (roomy-opened before j count done)

@@ -1,17 +1,17 @@
 -- The step Send: the batch that the output shows is the batch on the line.
-use Prim.Native.Nat.{ℕ, zero, suc, _+_, _-_, _*_, _/_, _%_, _≤_, _<_}
+use Prim.Native.Nat.{ℕ, zero, suc, _+_, _-_, _*_, _%_, _≤_, _<_}
 use mathlib.Core.Path.{_≡_, refl, sym, ap, ap₂, subst, _∙_}
-use mathlib.Core.Logic.{_⊎_, inl, inr, ⊎-elim}
+use mathlib.Core.Logic.{_⊎_, ⊎-elim}
 use mathlib.Core.List.{List, [], _∷_, _++_, map, map-append, append-assoc}
-use mathlib.Core.Bool.{Bool, true, false, cond, _&&_, true≢false}
+use mathlib.Core.Bool.{Bool, true, false, true≢false}
 use native.Mathlib.Omega.{arith}
 use borrow.Author.Tests.{eq-eqb, ne-eqb, leb-true}
 use lib.ListN.{length, getD, take, drop, replicate, length-append}
-use lib.Dec.{eqb, leb}
+use lib.Dec.{leb}
 use Rattle.journal.specs.declared.Entry.{Entry}
 use Rattle.journal.specs.Cases.{le-or-lt, eq-or-ne, and-left, and-right, and-intro}
 use Rattle.journal.specs.Entry.{inShape, countOf, entriesOf, placedAt}
-use Rattle.queue.specs.Items.{itemsOf, all, queuedIn, pushed}
+use Rattle.queue.specs.Items.{itemsOf, all, queuedIn}
 use Rattle.queue.specs.Laws.{pushed-room, all-append, all-take}
 use Rattle.window.specs.Record.{newRecord}
 use Rattle.rules.specs.declared.Term.{Term}
@@ -23,15 +23,15 @@ use Rattle.rules.specs.Shaped.{shaped}
 use Rattle.player.specs.Guards.{inShape-entries}
 use Rattle.rules.specs.Window.{requeue, Ready, none, front, readyIn, Batch, addFront, batchOf, launched}
 use Rattle.rules.specs.Batches.{batchOf-normal, batchOf-fetching, batchOf-more, batchOf-all, batchOf-suspended}
-use Rattle.rules.specs.Rules.{Outcome, windowAt, sendRule, batchNumbers, batchAt, sendOutput}
+use Rattle.rules.specs.Rules.{windowAt, sendRule, batchNumbers, batchAt, sendOutput}
 use Rattle.rules.specs.Laws.{sendRule-done}
 use Rattle.player.specs.Promise.{Keeps}
-use Rattle.delivery.specs.World.{Sent, Place, World, placeAt, numbersIn, playerIn, withLines, withPlace, onLine, calledThen, launch}
+use Rattle.delivery.specs.World.{Place, World, placeAt, playerIn, withLines, onLine, calledThen, launch}
 use Rattle.delivery.specs.World as W
 use Rattle.script.specs.declared.Track.{Track}
 use Rattle.script.specs.declared.Stage.{Stage}
 use Rattle.script.specs.declared.Step.the-variants.{Send}
-use Rattle.script.specs.Stage.{sentOf, ackOf, placeOf, worldOf, forget}
+use Rattle.script.specs.Stage.{sentOf, ackOf, worldOf}
 use Rattle.script.specs.Promise.{Steps}
 use Rattle.script.specs.Stored.{trackAt, loadedBy, settledBy}
 use Rattle.script.specs.Worlds.{playerOf-count, Staged, worldOf-player, worldOf-view}

@@ -27,7 +27,7 @@ use Rattle.player.specs.View.{playerOf}
 use Rattle.rules.specs.Rules.{Outcome, windowAt, withWindow, ackRule, joinRule}
 use Rattle.rules.specs.Laws.{ackRule-done, joinRule-done}
 use Rattle.player.specs.Promise.{numberOf, Keeps}
-use Rattle.delivery.specs.World.{Sent, Place, World, placeAt, numbersIn, playerIn, withView, withLines, withPlayer, withPlace, takeFront, answered, empty, stays, calledThen, takeAtLine, ackAtLine, cleared}
+use Rattle.delivery.specs.World.{Sent, Place, World, placeAt, numbersIn, playerIn, withView, withLines, withPlayer, withPlace, takeFront, answered, calledThen, takeAtLine, ackAtLine, cleared}
 use Rattle.delivery.specs.World as W
 use Rattle.delivery.specs.Worlds.{withPlayer-same, withPlayer-window, withPlace-here, withPlace-twice}
 use Rattle.delivery.specs.Stepped.{calledThen-refused, calledThen-done}
@@ -40,7 +40,7 @@ use Rattle.script.specs.Stage.{sentOf, ackOf, placeOf, worldOf, forget, 
 use Rattle.script.specs.Promise.{Steps}
 use Rattle.script.specs.Stored.{recordAt, trackAt, ackPushed, calledBy, settledBy, tookBy}
 use Rattle.script.specs.Places.{forgotten-place}
-use Rattle.script.specs.Worlds.{playerOf-count, worldOf-forgotten, worldOf-count, worldOf-none, Staged, worldOf-player, worldOf-view, worldOf-place, worldOf-placed}
+use Rattle.script.specs.Worlds.{playerOf-count, worldOf-forgotten, worldOf-count, worldOf-none, Staged, worldOf-player, worldOf-place, worldOf-placed}
 use Rattle.script.specs.Calls.{rule-here}
 
 -- ------------------------------------------------------------------------

@@ -1,20 +1,17 @@
 -- Document 01, "One run, whole": the runner's stage, seen as a world of `delivery`, and its steps as that world's steps.
-use Prim.Native.Nat.{ℕ, zero, suc, _+_, _*_, _/_, _%_}
+use Prim.Native.Nat.{ℕ, _+_, _/_, _%_}
 use mathlib.Core.List.{List, [], _∷_, map}
-use mathlib.Core.Bool.{Bool, true, false, cond, _&&_, _||_}
+use mathlib.Core.Bool.{Bool, _&&_, _||_}
 use lib.ListN.{length, getD, replicate}
-use lib.Dec.{leb, ltb, eqb}
+use lib.Dec.{leb, eqb}
 use Rattle.journal.specs.declared.Entry.{Entry}
 use Rattle.journal.specs.Entry.{placedAt}
-use Rattle.queue.specs.declared.Queue.{Queue}
 use Rattle.queue.specs.Items.{itemsOf}
 use Rattle.window.specs.declared.Record.{Record}
-use Rattle.window.specs.Record.{newRecord}
 use Rattle.rules.specs.declared.Term.{Term}
-use Rattle.player.specs.declared.Player.{Player}
 use Rattle.rules.specs.View.{State, normal, fetching, completed, suspended, WindowView}
 use Rattle.player.specs.View.{playerOf}
-use Rattle.delivery.specs.World.{Sent, Ack, Place, World, noPlace, placeAt, Stepped, answered, empty, unmade}
+use Rattle.delivery.specs.World.{Sent, Ack, Place, World, noPlace, placeAt, answered, empty}
 use Rattle.delivery.specs.World as W
 use Rattle.script.specs.declared.Track.{Track}
 use Rattle.script.specs.declared.Stage.{Stage}

@@ -1,16 +1,14 @@
 -- Laws of a stage as a world: the player in it, a window's place, and a stage of which a part is replaced.
-use Prim.Native.Nat.{ℕ, zero, suc, _+_, _≤_, _<_}
-use mathlib.Core.Path.{_≡_, refl, sym, ap, ap₂, _∙_}
-use mathlib.Core.List.{List, [], _∷_, map}
-use mathlib.Core.Bool.{true, cond}
+use Prim.Native.Nat.{ℕ, zero, suc, _≤_, _<_}
+use mathlib.Core.Path.{_≡_, refl, sym, ap, _∙_}
+use mathlib.Core.List.{List, [], _∷_}
+use mathlib.Core.Bool.{true}
 use native.Mathlib.Omega.{arith}
 use borrow.Author.Tests.{eqb-true}
 use lib.ListN.{length, getD, set, List·getD-eq-default}
-use lib.Seq.{set-getD}
-use lib.Dec.{eqb}
 use Rattle.journal.specs.declared.Entry.{Entry}
 use Rattle.journal.specs.Cases.{and-left}
-use Rattle.journal.specs.Entry.{inShape, entriesOf, numbersOf}
+use Rattle.journal.specs.Entry.{inShape, entriesOf}
 use Rattle.queue.specs.Items.{itemsOf}
 use Rattle.window.specs.declared.Record.{Record}
 use Rattle.window.specs.Record.{newRecord}
@@ -20,12 +18,12 @@ use Rattle.rules.specs.View.{WindowView, PlayerView, noWindow}
 use Rattle.player.specs.View.{viewOf, playerOf}
 use Rattle.player.specs.Views.{firstWindows-length, firstWindows-at}
 use Rattle.rules.specs.Rules.{windowAt, withWindow}
-use Rattle.delivery.specs.World.{Place, World, noPlace, placeAt, numbersIn, playerIn, withPlayer, withPlace}
+use Rattle.delivery.specs.World.{noPlace, placeAt, numbersIn, playerIn, withPlayer, withPlace}
 use Rattle.delivery.specs.Worlds.{window-in}
 use Rattle.script.specs.declared.Track.{Track}
 use Rattle.script.specs.declared.Stage.{Stage}
-use Rattle.script.specs.Stage.{noTrack, placeOf, placesOf, worldOf, forgotten}
-use Rattle.script.specs.Stored.{recordAt, trackAt}
+use Rattle.script.specs.Stage.{placeOf, placesOf, worldOf, forgotten}
+use Rattle.script.specs.Stored.{trackAt}
 use Rattle.script.specs.Places.{numbersOf-entriesOf, termsOf, placesOf-length, placesOf-forget, placesOf-views, placesOf-at, placesOf-set, placesOf-with, forgotten-player}
 
 -- what stands at a place that is there, whatever would stand past the end

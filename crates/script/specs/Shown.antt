@@ -1,0 +1,204 @@
+-- A script on a world without its history: each step does the same, so a stage goes on showing what a run of `delivery` has reached.
+use Prim.Native.Nat.{ℕ, _+_, _≤_, _<_}
+use mathlib.Core.Path.{_≡_, refl, sym, ap, ap₂, subst⁻¹, _∙_}
+use mathlib.Core.Logic.{⊎-elim}
+use mathlib.Core.List.{List, [], _∷_, _++_, map}
+use mathlib.Core.Bool.{Bool, true, false, cond, _&&_, _||_}
+use native.Mathlib.Omega.{arith}
+use borrow.Author.Tests.{le-leb, lt-leb}
+use lib.ListN.{length, length-map, List·getD-map}
+use lib.Dec.{eqb, ltb, leb}
+use Rattle.journal.specs.declared.Entry.{Entry}
+use Rattle.journal.specs.Cases.{le-or-lt, and-intro}
+use Rattle.journal.specs.Entry.{inShape, entriesOf, fiveOf}
+use Rattle.queue.specs.Items.{itemsOf}
+use Rattle.window.specs.Record.{takeNumbers}
+use Rattle.rules.specs.View.{PlayerView}
+use Rattle.rules.specs.Shaped.{shaped}
+use Rattle.rules.specs.Rules.{Outcome, mainRule, catchRule, writtenRule, ackRule, dropRule, joinRule, sendRule, batchAt}
+use Rattle.delivery.specs.World.{Sent, Ack, Place, World, noPlace, placeAt, numbersIn, playerIn, withLines, withPlayer, withPlace, onLine, takeFront, answered, called, calledThen, launch, takeAtLine, ackAtLine, cleared}
+use Rattle.delivery.specs.World as W
+use Rattle.delivery.specs.Worlds.{windows-in}
+use Rattle.script.specs.declared.Stage.{Stage}
+use Rattle.script.specs.declared.Step.{Step}
+use Rattle.script.specs.declared.Step.the-variants.{Main, Catch, Send, Written, Ack as AckStep, Drop, Join, Take}
+use Rattle.script.specs.declared.Stepped.{Stepped}
+use Rattle.script.specs.Stage.{worldOf, forget, forgotten, dueIn, stepIn, replyOf, windowOf, fits}
+use Rattle.script.specs.Promise.{Steps, Plays}
+use Rattle.script.specs.Stored.{trackAt}
+use Rattle.script.specs.Places.{forgotten-player, forgotten-place}
+use Rattle.script.specs.Worlds.{worldOf-count, worldOf-place}
+use Rattle.script.specs.Room.{Roomy, roomy-line}
+
+-- ------------------------------------------------------------------------
+-- forgotten
+
+views-forget : (ps : List Place) → map (λ p. p .view) (map forget ps) ≡ map (λ p. p .view) ps
+views-forget [] = refl
+views-forget (p ∷ ps) = ap (λ l. p .view ∷ l) (views-forget ps)
+
+forget-twice : (ps : List Place) → map forget (map forget ps) ≡ map forget ps
+forget-twice [] = refl
+forget-twice (p ∷ ps) = ap (λ l. forget p ∷ l) (forget-twice ps)
+
+forgotten-in : (wd : World) → playerIn (forgotten wd) ≡ playerIn wd
+unfolding forgotten
+forgotten-in wd = ap (λ vs. record { limit = wd .limit; current = wd .current; windows = vs }) (views-forget (wd .places))
+
+forgotten-twice : (wd : World) → forgotten (forgotten wd) ≡ forgotten wd
+unfolding forgotten
+forgotten-twice wd = ap (λ ps. record { journal = wd .journal; limit = wd .limit; current = wd .current; places = ps }) (forget-twice (wd .places))
+
+pub forgotten-at : (w : ℕ) (wd : World) → placeAt w (forgotten wd) ≡ forget (placeAt w wd)
+unfolding forgotten
+forgotten-at w wd = List·getD-map forget (wd .places) w noPlace
+
+pub forgotten-count : (wd : World) → length (forgotten wd .places) ≡ length (wd .places)
+unfolding forgotten
+forgotten-count wd = length-map (wd .places) forget
+
+-- ------------------------------------------------------------------------
+-- Alike
+
+-- the same reply, and the same world but for its history
+pub record Alike (a b : W.Stepped) : Type 0 where
+  pub reply : a .reply ≡ b .reply
+  pub world : forgotten (a .world) ≡ forgotten (b .world)
+
+alike-stays : (r : W.Reply) (wd : World) → Alike (W.stays r (forgotten wd)) (W.stays r wd)
+alike-stays r wd = record { reply = refl; world = forgotten-twice wd }
+
+player-alike : (q : PlayerView) (wd : World) → forgotten (withPlayer q (forgotten wd)) ≡ forgotten (withPlayer q wd)
+player-alike q wd = ap forgotten (sym (forgotten-player q wd)) ∙ forgotten-twice (withPlayer q wd)
+
+place-alike : (w : ℕ) (g h : Place → Place) (x : World) → forget (g (forget (placeAt w x))) ≡ forget (h (placeAt w x)) →
+    forgotten (withPlace w (g (placeAt w (forgotten x))) (forgotten x)) ≡ forgotten (withPlace w (h (placeAt w x)) x)
+place-alike w g h x same =
+    forgotten-place w (g (placeAt w (forgotten x))) (forgotten x)
+    ∙ ap₂ (withPlace w) (ap (λ p. forget (g p)) (forgotten-at w x) ∙ same) (forgotten-twice x)
+    ∙ sym (forgotten-place w (h (placeAt w x)) x)
+
+-- a call of the player, by its rule
+alike-called : (rule : PlayerView → Outcome) (wd : World) → Alike (called (rule (playerIn (forgotten wd))) (forgotten wd)) (called (rule (playerIn wd)) wd)
+alike-called rule wd =
+    subst⁻¹ (λ p. Alike (called (rule p) (forgotten wd)) (called (rule (playerIn wd)) wd)) (forgotten-in wd)
+    (record { reply = refl; world = player-alike (rule (playerIn wd) .next) wd })
+
+alike-then : (rule : PlayerView → Outcome) (f g : World → World) (wd : World) → ((x : World) → forgotten (f (forgotten x)) ≡ forgotten (g x)) →
+    Alike (calledThen (rule (playerIn (forgotten wd))) f (forgotten wd)) (calledThen (rule (playerIn wd)) g wd)
+alike-then rule f g wd same =
+    subst⁻¹ (λ p. Alike (calledThen (rule p) f (forgotten wd)) (calledThen (rule (playerIn wd)) g wd)) (forgotten-in wd)
+    (record { reply = refl; world = by (eqb (rule (playerIn wd) .answer) 0) })
+  where
+    by : (b : Bool) → forgotten (cond b (f (withPlayer (rule (playerIn wd) .next) (forgotten wd))) (withPlayer (rule (playerIn wd) .next) (forgotten wd)))
+        ≡ forgotten (cond b (g (withPlayer (rule (playerIn wd) .next) wd)) (withPlayer (rule (playerIn wd) .next) wd))
+    by true =
+        ap (λ x. forgotten (f x)) (sym (forgotten-player (rule (playerIn wd) .next) wd)) ∙ same (withPlayer (rule (playerIn wd) .next) wd)
+    by false = player-alike (rule (playerIn wd) .next) wd
+
+-- ------------------------------------------------------------------------
+-- the steps of a script
+
+take-alike : (w : ℕ) (wd : World) (l : List Sent) → Alike (takeAtLine w l (forgotten wd)) (takeAtLine w l wd)
+unfolding takeFront
+take-alike w wd [] = alike-stays W.empty wd
+take-alike w wd (s ∷ l) = record {
+  reply = ap (λ p. answered (takeNumbers (fiveOf (s .placed)) (p .record′) .number)) (forgotten-at w wd);
+  world = place-alike w (takeFront s l) (takeFront s l) wd refl;
+}
+
+ack-alike : (w : ℕ) (wd : World) (l : List Ack) → Alike (ackAtLine w l (forgotten wd)) (ackAtLine w l wd)
+unfolding forgotten
+ack-alike w wd [] = alike-stays W.empty wd
+ack-alike w wd (a ∷ l) =
+    let f : World → World = λ x. withPlace w (withLines (placeAt w x .line) l (placeAt w x)) x in
+    alike-then (λ p. ackRule (numbersIn wd) w (a .term) (a .index) p) f f wd (λ x. place-alike w (λ p. withLines (p .line) l p) (λ p. withLines (p .line) l p) x refl)
+
+-- below W by the line, from W up answered 2
+line-alike : (r : W.Reply) (wd : World) (w : ℕ) (a b : W.Stepped) → Alike a b →
+    Alike (cond (ltb w (length (forgotten wd .places))) a (W.stays r (forgotten wd))) (cond (ltb w (length (wd .places))) b (W.stays r wd))
+line-alike r wd w a b same =
+    subst⁻¹ (λ n. Alike (cond (ltb w n) a (W.stays r (forgotten wd))) (cond (ltb w (length (wd .places))) b (W.stays r wd))) (forgotten-count wd)
+    (by (ltb w (length (wd .places))))
+  where
+    by : (t : Bool) → Alike (cond t a (W.stays r (forgotten wd))) (cond t b (W.stays r wd))
+    by true = same
+    by false = alike-stays r wd
+
+pub step-alike : (wd : World) (s : Step) → Alike (W.step (stepIn (forgotten wd) s) (forgotten wd)) (W.step (stepIn wd s) wd)
+unfolding W.step forgotten
+step-alike wd Main = alike-called (λ p. mainRule (numbersIn wd) (wd .current + 1) p) wd
+step-alike wd (Catch w) =
+    subst⁻¹ (λ x. Alike (W.step (W.catch w (x .view .term) (dueIn (x .view .state))) (forgotten wd)) (W.step (stepIn wd (Catch w)) wd)) (forgotten-at w wd)
+    (alike-called (λ p. catchRule (numbersIn wd) w (placeAt w wd .view .term) (dueIn (placeAt w wd .view .state)) p) wd)
+step-alike wd (Send w) =
+    alike-then (λ p. sendRule (numbersIn wd) w 10 p) (launch w (forgotten wd)) (launch w wd) wd
+    (λ x.
+    place-alike w
+    (λ p. withLines (p .line ++ onLine (wd .journal) (placeAt w (forgotten wd) .view .term) (batchAt w (playerIn (forgotten wd)))) (p .back) p)
+    (λ p. withLines (p .line ++ onLine (wd .journal) (placeAt w wd .view .term) (batchAt w (playerIn wd))) (p .back) p) x
+    (ap₂ (λ t is. forget (withLines (placeAt w x .line ++ onLine (wd .journal) t is) (placeAt w x .back) (placeAt w x)))
+    (ap (λ p. p .view .term) (forgotten-at w wd)) (ap (batchAt w) (forgotten-in wd))))
+step-alike wd (Written w) =
+    subst⁻¹ (λ x. Alike (W.step (W.written w (x .view .term)) (forgotten wd)) (W.step (stepIn wd (Written w)) wd)) (forgotten-at w wd)
+    (alike-called (λ p. writtenRule (numbersIn wd) w (placeAt w wd .view .term) p) wd)
+step-alike wd (AckStep w) =
+    line-alike (answered 2) wd w _ _
+    (subst⁻¹ (λ x. Alike (ackAtLine w (x .back) (forgotten wd)) (ackAtLine w (placeAt w wd .back) wd)) (forgotten-at w wd) (ack-alike w wd (placeAt w wd .back)))
+step-alike wd (Drop w) = alike-called (λ p. dropRule (numbersIn wd) w p) wd
+step-alike wd (Join w) =
+    subst⁻¹ (λ x. Alike (calledThen (joinRule (numbersIn wd) w (x .record′ .last .0) (playerIn (forgotten wd))) (λ y. withPlace w (cleared (placeAt w y)) y) (forgotten wd))
+    (W.step (stepIn wd (Join w)) wd)) (forgotten-at w wd)
+    (alike-then (λ p. joinRule (numbersIn wd) w (placeAt w wd .record′ .last .0) p) (λ y. withPlace w (cleared (placeAt w y)) y)
+    (λ y. withPlace w (cleared (placeAt w y)) y) wd (λ x. place-alike w cleared cleared x refl))
+step-alike wd (Take w) =
+    line-alike (answered 2) wd w _ _
+    (subst⁻¹ (λ x. Alike (takeAtLine w (x .line) (forgotten wd)) (takeAtLine w (placeAt w wd .line) wd)) (forgotten-at w wd) (take-alike w wd (placeAt w wd .line)))
+
+-- ------------------------------------------------------------------------
+-- a stage that shows a world
+
+module _ (j : List Entry) (s : Stage) (wd : World) (shows : worldOf j s ≡ forgotten wd) where
+  -- a step that is played replies as the world's does, and the next stage shows the next world
+  pub shown-step : (st : Step) (r : Stepped) → Steps j s st r →
+      (replyOf (r .reply) ≡ W.step (stepIn wd st) wd .reply) × (worldOf j (r .stage) ≡ forgotten (W.step (stepIn wd st) wd .world))
+  shown-step st r k = (
+    k .reply ∙ ap (λ x. W.step (stepIn x st) x .reply) shows ∙ step-alike wd st .reply,
+    k .world ∙ ap (λ x. forgotten (W.step (stepIn x st) x .world)) shows ∙ step-alike wd st .world,
+  )
+
+  shown-count : s .player .count ≡ length (wd .places)
+  shown-count = sym (worldOf-count j s) ∙ ap (λ x. length (x .places)) shows ∙ forgotten-count wd
+
+  -- where the world has room, every step fits
+  module _ (r : Roomy wd) (records : length (s .records) ≡ 16) (tracks : length (s .tracks) ≡ 16) where
+    shown-few : s .player .count ≤ 16
+    shown-few = omega (arith, shown-count, shaped (numbersIn wd) (playerIn wd) (r .reached .inShape) .most, windows-in wd)
+
+    shown-lines : (w : ℕ) → w < s .player .count → (length (itemsOf (trackAt w s .line)) ≤ 16) × (length (itemsOf (trackAt w s .back)) ≤ 8)
+    shown-lines w l =
+        let e = sym (worldOf-place j s (record { few = shown-few; records = records; tracks = tracks }) w l) ∙ ap (placeAt w) shows ∙ forgotten-at w wd in
+        let room = roomy-line (placeAt w wd) (r .each w (omega (arith, shown-count))) in (
+          omega (arith, sym (length-map (itemsOf (trackAt w s .line)) _) ∙ ap (λ p. length (p .line)) e, room .0),
+          omega (arith, sym (length-map (itemsOf (trackAt w s .back)) _) ∙ ap (λ p. length (p .back)) e, room .1),
+        )
+
+    pub shown-fits : (st : Step) → fits s st ≡ true
+    shown-fits st = and-intro (le-leb _ 16 shown-few) (⊎-elim above below (le-or-lt (s .player .count) (windowOf st)))
+      where
+        above : s .player .count ≤ windowOf st →
+            (leb (s .player .count) (windowOf st) || (leb (length (itemsOf (trackAt (windowOf st) s .line))) 126 && leb (length (itemsOf (trackAt (windowOf st) s .back))) 127)) ≡ true
+        above h = rw (le-leb _ _ h)
+
+        below : windowOf st < s .player .count →
+            (leb (s .player .count) (windowOf st) || (leb (length (itemsOf (trackAt (windowOf st) s .line))) 126 && leb (length (itemsOf (trackAt (windowOf st) s .back))) 127)) ≡ true
+        below h =
+            let n = shown-lines (windowOf st) h in
+            rw (lt-leb _ _ h, le-leb (length (itemsOf (trackAt (windowOf st) s .line))) 126 (omega arith), le-leb (length (itemsOf (trackAt (windowOf st) s .back))) 127 (omega arith))
+
+-- so a stage that shows a world with room plays every step as that world does
+pub shown-plays : (ns : List ℕ) (s : Stage) (wd : World) (st : Step) (r : Stepped) → inShape ns ≡ true → worldOf (entriesOf ns) s ≡ forgotten wd → Roomy wd →
+    length (s .records) ≡ 16 → length (s .tracks) ≡ 16 → Plays ns s st r →
+    (replyOf (r .reply) ≡ W.step (stepIn wd st) wd .reply) × (worldOf (entriesOf ns) (r .stage) ≡ forgotten (W.step (stepIn wd st) wd .world))
+shown-plays ns s wd st r e shows roomy records tracks k =
+    shown-step (entriesOf ns) s wd shows st r (k .played (and-intro e (shown-fits (entriesOf ns) s wd shows roomy records tracks st)))
