@@ -18,8 +18,7 @@ use Rattle.rules.specs.View.{WindowView, PlayerView, noWindow}
 use Rattle.rules.specs.Shape.{shape}
 use Rattle.rules.specs.Window.{isSuspended, started}
 use Rattle.rules.specs.Rules.{windowAt, least}
-use Rattle.rules.specs.Starts.{StartDone, startRule-done, startNext-at, least-some}
-use Rattle.rules.specs.Kept.{start-keeps}
+use Rattle.rules.specs.Offers.{StartDone, startRule-done, startNext-at, least-some, start-keeps}
 use Rattle.delivery.specs.World.{Place, World, placeAt, playerIn, newPlace, opened, Step, run}
 use Rattle.delivery.specs.Statement.{changes, Leading, Delivers, firstStart, Demand3}
 use Rattle.delivery.specs.Invariant.{Inv, Reached, lastOf, endsOf}

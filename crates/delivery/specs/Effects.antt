@@ -8,7 +8,7 @@ use Rattle.journal.specs.declared.Entry.{Entry}
 use Rattle.rules.specs.declared.Term.{Term}
 use Rattle.rules.specs.Shape.{shape}
 use Rattle.rules.specs.Window.{isSuspended, wanted, mainAt, fetched, batchOf, freed, acknowledged, dropped, joined, started}
-use Rattle.rules.specs.Turns.{Caught, SentOut, WrittenOff, AckTaken}
+use Rattle.rules.specs.Offers.{Caught, SentOut, WrittenOff, AckTaken}
 use Rattle.delivery.specs.World.{Sent, Ack, Place, World, placeAt, numbersIn, playerIn, withView, withLines, withPlace, takeFront, cleared, Step, drop, join, start, append, step}
 use Rattle.delivery.specs.Invariant.{lastOf}
 use Rattle.delivery.specs.KeepSend.{launchedPlace}

@@ -13,12 +13,9 @@ use Rattle.journal.specs.Due.{due, elem, due-split}
 use Rattle.journal.specs.Own.{own, own-due}
 use Rattle.rules.specs.View.{State, normal, fetching, completed, suspended, WindowView}
 use Rattle.rules.specs.Shape.{isEmpty}
-use Rattle.rules.specs.Shaped.{shaped}
+use Rattle.rules.specs.Offers.{shaped, batchOf-normal, batchOf-fetching, batchOf-more, batchOf-all, mainRule-can, catchRule-can, sendRule-can, writtenRule-can, ackRule-can}
 use Rattle.rules.specs.Window.{isSuspended, requeue, batchOf}
 use Rattle.rules.specs.Rules.{windowAt, ackRule}
-use Rattle.rules.specs.Batches.{batchOf-normal, batchOf-fetching, batchOf-more, batchOf-all}
-use Rattle.rules.specs.Laws.{mainRule-can}
-use Rattle.rules.specs.Cans.{catchRule-can, sendRule-can, writtenRule-can, ackRule-can}
 use Rattle.delivery.specs.World.{Sent, Ack, World, placeAt, numbersIn, playerIn, Step, main, catch, written, send, ack, step}
 use Rattle.delivery.specs.World as W
 use Rattle.delivery.specs.SameLaws.{PlaceIs, WorldIs, sameWorld-equal}

@@ -13,9 +13,8 @@ use Rattle.journal.specs.Cases.{eq-or-ne, le-or-lt}
 use Rattle.rules.specs.View.{State, normal, fetching, completed, WindowView}
 use Rattle.rules.specs.Shape.{isEmpty}
 use Rattle.rules.specs.Window.{isSuspended, mainAt, fetched, batchOf}
-use Rattle.rules.specs.Batches.{StateAfter, batchOf-state}
-use Rattle.rules.specs.Batches as B
-use Rattle.rules.specs.Moves.{oneIf, mainAt-either, fetched-more, fetched-last, launched-is}
+use Rattle.rules.specs.Offers.{StateAfter, batchOf-state, oneIf, mainAt-either, fetched-more, fetched-last, launched-is}
+use Rattle.rules.specs.Offers as B
 use Rattle.delivery.specs.World.{Place, World, placeAt, withPlace, Step, main, catch, written, send, ack, late-ack, drop, join, start, append, Reply, step, run}
 use Rattle.delivery.specs.World as W
 use Rattle.delivery.specs.Statement.{isDone, begins, joinedBy, joinedAfter}

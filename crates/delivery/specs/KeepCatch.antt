@@ -14,8 +14,7 @@ use Rattle.rules.specs.declared.Term.{Term}
 use Rattle.rules.specs.View.{State, normal, fetching, completed, WindowView}
 use Rattle.rules.specs.Shape.{isEmpty}
 use Rattle.rules.specs.Window.{isSuspended, requeue, wanted, fetched}
-use Rattle.rules.specs.Moves.{oneIf, fetched-more, fetched-last}
-use Rattle.rules.specs.Turns.{Caught}
+use Rattle.rules.specs.Offers.{oneIf, fetched-more, fetched-last, Caught}
 use Rattle.delivery.specs.World.{Place, withView}
 use Rattle.delivery.specs.Invariant.{Inv, Queues, FetchingQueues}
 use Rattle.delivery.specs.KeepMain.{inv-requeue}

@@ -17,8 +17,7 @@ use Rattle.rules.specs.declared.Term.{Term}
 use Rattle.rules.specs.View.{State, normal, fetching, completed, suspended, WindowView}
 use Rattle.rules.specs.Shape.{isEmpty}
 use Rattle.rules.specs.Window.{isSuspended, isReport, freed, struck, acknowledged}
-use Rattle.rules.specs.Moves.{struck-front}
-use Rattle.rules.specs.Turns.{WrittenOff, AckTaken}
+use Rattle.rules.specs.Offers.{struck-front, WrittenOff, AckTaken}
 use Rattle.delivery.specs.World.{Sent, Ack, Place, withView, withLines, takeFront}
 use Rattle.delivery.specs.Invariant.{Inv, Queues, lastOf, backIndices, lineEntries, endsOf, LineTerms, BackTerms}
 use Rattle.delivery.specs.Lines.{backTerms-append}

@@ -14,7 +14,7 @@ use Rattle.journal.specs.Cases.{true-or-false, le-or-lt}
 use Rattle.journal.specs.Due.{due, due-empty, due-more}
 use Rattle.rules.specs.View.{State, normal, fetching, completed, suspended, WindowView}
 use Rattle.rules.specs.Window.{isSuspended, requeue, wanted, mainAt}
-use Rattle.rules.specs.Moves.{mainAt-other, mainAt-suspended, mainAt-room, mainAt-normal, mainAt-fetching, mainAt-completed}
+use Rattle.rules.specs.Offers.{mainAt-other, mainAt-suspended, mainAt-room, mainAt-normal, mainAt-fetching, mainAt-completed}
 use Rattle.delivery.specs.World.{Place, withView}
 use Rattle.delivery.specs.Invariant.{Inv, Queues, FetchingQueues, CompletedQueues}
 

@@ -14,9 +14,7 @@ use Rattle.journal.specs.Due.{due, lastOr, due-empty, due-split, Cut, due-cut}
 use Rattle.rules.specs.View.{State, normal, fetching, completed, suspended, WindowView}
 use Rattle.rules.specs.Shape.{isEmpty}
 use Rattle.rules.specs.Window.{isSuspended, requeue, Batch, batchOf, launched}
-use Rattle.rules.specs.Batches.{batchOf-normal, batchOf-fetching, batchOf-more, batchOf-all}
-use Rattle.rules.specs.Moves.{launched-is}
-use Rattle.rules.specs.Turns.{SentOut}
+use Rattle.rules.specs.Offers.{batchOf-normal, batchOf-fetching, batchOf-more, batchOf-all, launched-is, SentOut}
 use Rattle.delivery.specs.World.{Place, withView, withLines, onLine}
 use Rattle.delivery.specs.Invariant.{Inv, Queues, FetchingQueues, CompletedQueues, lastOf, backIndices, endsOf}
 use Rattle.delivery.specs.Lines.{lastOr-some, lineTerms-append, endsOf-append, onLine-entries, onLine-terms, onLine-ends}

@@ -12,8 +12,7 @@ use Rattle.journal.specs.Due.{Rising, lastOr}
 use Rattle.rules.specs.View.{State, normal, fetching, completed, suspended, WindowView}
 use Rattle.rules.specs.Shape.{isEmpty}
 use Rattle.rules.specs.Window.{wanted, requeue, mainAt, fetched, batchOf, launched, Batch}
-use Rattle.rules.specs.Batches.{StateAfter, same, emptied, batchOf-state, batchOf-kept}
-use Rattle.rules.specs.Moves.{oneIf, mainAt-either, fetched-more, fetched-last, launched-is}
+use Rattle.rules.specs.Offers.{StateAfter, same, emptied, batchOf-state, batchOf-kept, oneIf, mainAt-either, fetched-more, fetched-last, launched-is}
 use Rattle.delivery.specs.World.{Place, withView, takeFront}
 use Rattle.delivery.specs.Invariant.{Inv, Queues, FetchingQueues, CompletedQueues, lastOf, backIndices}
 use Rattle.delivery.specs.KeepSend.{Launched, keep-send}

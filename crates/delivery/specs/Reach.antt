@@ -12,8 +12,7 @@ use Rattle.journal.specs.declared.Entry.{Entry}
 use Rattle.journal.specs.Cases.{eq-or-ne, and-right}
 use Rattle.journal.specs.Entry.{numbersOf, countOf}
 use Rattle.rules.specs.Shape.{shape}
-use Rattle.rules.specs.Shaped.{shaped}
-use Rattle.rules.specs.Kept.{append-keeps}
+use Rattle.rules.specs.Offers.{shaped, append-keeps}
 use Rattle.delivery.specs.World.{Place, World, placeAt, numbersIn, playerIn, withPlace, Step, step, run}
 use Rattle.delivery.specs.Invariant.{Inv, Reached}
 use Rattle.delivery.specs.KeepMain.{keep-main}

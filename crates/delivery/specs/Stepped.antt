@@ -16,9 +16,7 @@ use Rattle.rules.specs.View.{WindowView, PlayerView}
 use Rattle.rules.specs.Shape.{shape}
 use Rattle.rules.specs.Window.{wanted, fetched, freed, dropped}
 use Rattle.rules.specs.Rules.{Outcome, windowAt, withWindow, catchRule, writtenRule, ackRule, dropRule}
-use Rattle.rules.specs.Turns.{Caught, WrittenOff}
-use Rattle.rules.specs.Laws.{Operated, catchRule-refuses, catchRule-done, writtenRule-refuses, writtenRule-done, ackRule-refuses, ackRule-done, dropRule-refuses, dropRule-done}
-use Rattle.rules.specs.Kept.{catch-keeps, written-keeps, drop-keeps}
+use Rattle.rules.specs.Offers.{Caught, WrittenOff, Operated, catchRule-refuses, catchRule-done, writtenRule-refuses, writtenRule-done, ackRule-refuses, ackRule-done, dropRule-refuses, dropRule-done, catch-keeps, written-keeps, drop-keeps}
 use Rattle.delivery.specs.World.{Place, World, placeAt, numbersIn, playerIn, withView, withPlayer, withPlace, Step, catch, written, late-ack, drop, answered, called, calledThen, step}
 use Rattle.delivery.specs.World as W
 use Rattle.delivery.specs.Statement.{begins}

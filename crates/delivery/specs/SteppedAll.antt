@@ -13,9 +13,7 @@ use Rattle.journal.specs.Cases.{eq-or-ne, le-or-lt}
 use Rattle.rules.specs.Shape.{shape}
 use Rattle.rules.specs.Window.{mainAt, started}
 use Rattle.rules.specs.Rules.{Outcome, windowAt, mainRule, least, startRule}
-use Rattle.rules.specs.Laws.{MainDone, mainRule-done, mainRule-refuses, mainNext-at, mainRule-count}
-use Rattle.rules.specs.Starts.{StartDone, startRule-done, startRule-refuses, startNext-at, least-le}
-use Rattle.rules.specs.Kept.{main-keeps, start-keeps}
+use Rattle.rules.specs.Offers.{MainDone, mainRule-done, mainRule-refuses, mainNext-at, mainRule-count, StartDone, startRule-done, startRule-refuses, startNext-at, least-le, main-keeps, start-keeps}
 use Rattle.delivery.specs.World.{Place, World, noPlace, placeAt, numbersIn, playerIn, withView, withViews, withPlayer, Step, main, catch, written, send, ack, late-ack, drop, join, start, append, cleared, reportsIn, step}
 use Rattle.delivery.specs.World as W
 use Rattle.delivery.specs.Invariant.{lastOf}

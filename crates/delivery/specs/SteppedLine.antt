@@ -11,9 +11,7 @@ use Rattle.rules.specs.View.{WindowView}
 use Rattle.rules.specs.Shape.{shape}
 use Rattle.rules.specs.Window.{isSuspended, batchOf, launched, acknowledged, joined}
 use Rattle.rules.specs.Rules.{Outcome, windowAt, withWindow, ackRule, joinRule, sendRule}
-use Rattle.rules.specs.Turns.{SentOut, AckTaken}
-use Rattle.rules.specs.Laws.{sendRule-refuses, sendRule-done, ackRule-refuses, ackRule-done, joinRule-refuses, joinRule-done}
-use Rattle.rules.specs.Kept.{send-keeps, ack-keeps, join-keeps}
+use Rattle.rules.specs.Offers.{SentOut, AckTaken, sendRule-refuses, sendRule-done, ackRule-refuses, ackRule-done, joinRule-refuses, joinRule-done, send-keeps, ack-keeps, join-keeps}
 use Rattle.delivery.specs.World.{Sent, Ack, Place, World, placeAt, numbersIn, playerIn, withView, withLines, withPlace, onLine, takeFront, Step, send, ack, join, answered, calledThen, launch, takeAtLine, ackAtLine, cleared, step}
 use Rattle.delivery.specs.World as W
 use Rattle.delivery.specs.Invariant.{lastOf}

@@ -14,3 +14,4 @@ pub mod KeptWindow
 pub mod KeptLine
 pub mod Kept
 pub mod Cans
+pub mod Offers
