@@ -2,7 +2,7 @@
 use crate::show;
 use queue::Batches;
 
-pub fn all() {
+pub(crate) fn all() {
     pushes();
     skips();
     clears();

@@ -28,7 +28,7 @@ fn index(q: Queue, k: usize) {
 }
 
 // Up to four of a queue's indices.
-pub fn indices(name: &[u8], q: Queue) {
+pub(crate) fn indices(name: &[u8], q: Queue) {
     label(name);
     index(q, 0);
     index(q, 1);
@@ -37,19 +37,19 @@ pub fn indices(name: &[u8], q: Queue) {
     end();
 }
 
-pub fn size(name: &[u8], q: Queue) {
+pub(crate) fn size(name: &[u8], q: Queue) {
     label(name);
     value(q.size() as u64);
     end();
 }
 
-pub fn item(name: &[u8], q: Queue, k: usize) {
+pub(crate) fn item(name: &[u8], q: Queue, k: usize) {
     label(name);
     value(q.item(k) as u64);
     end();
 }
 
-pub fn flag(name: &[u8], yes: bool) {
+pub(crate) fn flag(name: &[u8], yes: bool) {
     label(name);
     if yes {
         io::write_all(1, b" yes\n");
@@ -66,7 +66,7 @@ fn batch(b: Batches, k: usize) {
 }
 
 // Up to nine of the batches.
-pub fn held(name: &[u8], b: Batches) {
+pub(crate) fn held(name: &[u8], b: Batches) {
     label(name);
     batch(b, 0);
     batch(b, 1);
@@ -80,19 +80,19 @@ pub fn held(name: &[u8], b: Batches) {
     end();
 }
 
-pub fn held_size(name: &[u8], b: Batches) {
+pub(crate) fn held_size(name: &[u8], b: Batches) {
     label(name);
     value(b.size() as u64);
     end();
 }
 
-pub fn held_item(name: &[u8], b: Batches, k: usize) {
+pub(crate) fn held_item(name: &[u8], b: Batches, k: usize) {
     label(name);
     value(b.item(k) as u64);
     end();
 }
 
-pub fn place(name: &[u8], f: Found) {
+pub(crate) fn place(name: &[u8], f: Found) {
     label(name);
     match f {
         Found::At(k) => {

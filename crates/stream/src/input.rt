@@ -25,7 +25,7 @@ pub struct Line {
 }
 
 // The place of the first LF from `from` on and before `to`; `to` where there is none.
-pub fn line_end(buf: &[u8], from: usize, to: usize) -> usize
+pub(crate) fn line_end(buf: &[u8], from: usize, to: usize) -> usize
     requires { ⌜ (from ≤ to) × (to ≤ length (now buf)) ⌝ }
     ensures { λ r. ⌜ (from ≤ r) × (r ≤ to) ⌝ }
 {
@@ -64,7 +64,7 @@ fn read_at(fd: i32, buf: &mut [u8], end: usize) -> usize
 }
 
 // Reads until a line is `run`, the buffer is full or the input ends.
-pub fn find_run(fd: i32, buf: &mut [u8]) -> Run
+pub(crate) fn find_run(fd: i32, buf: &mut [u8]) -> Run
     ensures { λ r. ⌜ Places (r .at) (r .next) (r .end) (now (buf .entry)) ⌝ }
 {
     let mut at = 0;
@@ -134,7 +134,14 @@ fn read_line(fd: i32, buf: &mut [u8], at: usize, end: usize) -> Line
 }
 
 // The line that begins at `at`. Where it is not whole in the buffer, the output that waits is written before more is read.
-pub fn next_line(fd: i32, buf: &mut [u8], at: usize, end: usize, out: &[u8], used: usize) -> Line
+pub(crate) fn next_line(
+    fd: i32,
+    buf: &mut [u8],
+    at: usize,
+    end: usize,
+    out: &[u8],
+    used: usize,
+) -> Line
     requires { ⌜ (at ≤ end) × (end ≤ length (now buf)) ⌝ }
     requires { ⌜ used ≤ length (now out) ⌝ }
     ensures { λ r. ⌜ Places (r .at) (r .lf) (r .end) (now (buf .entry)) × (r .used ≤ used) ⌝ }

@@ -53,7 +53,7 @@ fn put_reply(out: &mut [u8], used: usize, reply: Reply) -> usize
 }
 
 // Puts a step's number and its answer, a line.
-pub fn put_answer(out: &mut [u8], used: usize, number: u64, reply: Reply) -> usize
+pub(crate) fn put_answer(out: &mut [u8], used: usize, number: u64, reply: Reply) -> usize
     requires { ⌜ Waiting used (now out) ⌝ }
     ensures { λ r. ⌜ r ≤ length (now (out .entry)) ⌝ }
 {
@@ -78,7 +78,7 @@ fn put_window(out: &mut [u8], used: usize, w: usize, last: u32, count: u32) -> u
 }
 
 // Puts a line for each window and writes all that waits.
-pub fn put_windows(out: &mut [u8], used: usize, stage: Stage, count: u32)
+pub(crate) fn put_windows(out: &mut [u8], used: usize, stage: Stage, count: u32)
     requires { ⌜ Waiting used (now out) ⌝ }
 {
     let records = stage.records;
@@ -97,7 +97,7 @@ pub fn put_windows(out: &mut [u8], used: usize, stage: Stage, count: u32)
 }
 
 // Puts the line `bad` and writes all that waits.
-pub fn refuse(out: &mut [u8], used: usize)
+pub(crate) fn refuse(out: &mut [u8], used: usize)
     requires { ⌜ Waiting used (now out) ⌝ }
 {
     let end = put_text(out, used, b"bad\n");
