@@ -8,10 +8,10 @@ use native.Mathlib.Omega.{arith}
 use lib.ListN.{length, length-map}
 use lib.Dec.{eqb}
 use Rattle.journal.specs.declared.Entry.{Entry}
-use Rattle.journal.specs.Entry.{placedAt, fiveOf}
+use Rattle.journal.specs.Entry.{placedAt}
 use Rattle.journal.specs.Due.{due, Rising, due-split, due-length, Begins, due-cons, rising-append, rising-widen}
 use Rattle.window.specs.declared.Record.{Record}
-use Rattle.window.specs.Record.{newRecord, takeEntry, takeNumbers, takeAll}
+use Rattle.window.specs.Record.{newRecord, takeEntry, takeAll}
 use Rattle.window.specs.Laws.{takeNumbers-placed, takeEntry-answers, takeEntry-last, takeAll-snoc, takeAll-new-count}
 use Rattle.rules.specs.declared.Term.{Term}
 use Rattle.rules.specs.View.{State, normal, fetching, completed, suspended, WindowView}
@@ -199,11 +199,7 @@ module _ (j : List Entry) (c w : ℕ) (p : Place) (inv : Inv j c w p) (few : len
   entry-answer : takeEntry (s .placed) (p .record′) .number ≡ 0
   entry-answer = ap (λ o. o .number) (takeEntry-answers (s .placed) (p .record′) count-small)
 
-  -- Take is answered 0
-  pub take-answer : takeNumbers (fiveOf (s .placed)) (p .record′) .number ≡ 0
-  take-answer = ap (λ o. o .number) (takeNumbers-placed (s .placed) (p .record′)) ∙ entry-answer
-
-  -- and the place is then this
+  -- the place after the Take
   pub take-place : takeFront s rest p ≡ record {
     view = p .view;
     record′ = takeEntry (s .placed) (p .record′) .record′;

@@ -100,10 +100,6 @@ sent-ahead j c w p inv read s (emptied end e n) =
     let b : ahead (length j) c (p .view .state) ≡ length j - end = ap (ahead (length j) c) e in
     omega (arith, k .read)
 
-busy-le : (b : Bool) → busyOf b ≤ 1
-busy-le true = omega arith
-busy-le false = omega arith
-
 sent-work : (j : List Entry) (c limit w : ℕ) (p : Place) → Inv j c w p → c ≤ length j → Launched j c w (batchOf limit (p .view)) p →
     viewWork (length j) c (launched (batchOf limit (p .view))) < viewWork (length j) c (p .view)
 sent-work j c limit w p inv read up =

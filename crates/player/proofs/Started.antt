@@ -9,7 +9,7 @@ use lib.ListN.{length}
 use lib.Dec.{leb}
 use Rattle.journal.specs.Entry.{inShape, entriesOf}
 use Rattle.journal.specs.Cases.{and-left, and-right}
-use Rattle.player.specs.declared.Answer.the-variants.{Done, OutOfShape, BadReport}
+use Rattle.held.specs.declared.Answer.the-variants.{Done, OutOfShape, BadReport}
 use Rattle.player.specs.declared.Player.{Player}
 use Rattle.player.specs.View.{firstWindows, playerOf}
 use Rattle.rules.specs.Shape.{countFits, limitFits}

@@ -4,7 +4,4 @@ pub mod Promise
 pub mod Views
 pub mod Stored
 pub mod Guards
-pub mod Sending
-pub mod Shares
 pub mod Starting
-pub mod Overwritten

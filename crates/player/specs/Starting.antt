@@ -11,9 +11,10 @@ use lib.Seq.{take-suc, drop-cons}
 use lib.Dec.{leb, eqb}
 use Rattle.journal.specs.declared.Entry.{Entry}
 use Rattle.journal.specs.Entry.{inShape}
-use Rattle.player.specs.declared.Window.{Window}
+use Rattle.held.specs.declared.Window.{Window}
 use Rattle.rules.specs.View.{WindowView}
-use Rattle.player.specs.View.{viewOf, firstWindows}
+use Rattle.held.specs.View.{viewOf}
+use Rattle.player.specs.View.{firstWindows}
 use Rattle.rules.specs.Shape.{countFits, limitFits}
 use Rattle.rules.specs.Window.{isReport, started}
 use Rattle.rules.specs.Rules.{areReports, least}

@@ -1,20 +1,21 @@
 -- What the private functions of the player promise: the first two checks, one window's turn stored, and Main at every window.
-use Prim.Native.Nat.{ℕ}
+use Prim.Native.Nat.{ℕ, _%_}
 use mathlib.Core.List.{List}
 use mathlib.Core.Bool.{not, cond}
 use lib.ListN.{length, set}
 use lib.Dec.{ltb, eqb}
 use Rattle.journal.specs.declared.Entry.{Entry}
-use Rattle.player.specs.declared.Answer.{Answer}
-use Rattle.player.specs.declared.Answer.the-variants.{Done, OutOfShape, NoSuchWindow}
+use Rattle.held.specs.declared.Answer.{Answer}
+use Rattle.held.specs.declared.Answer.the-variants.{Done, OutOfShape, NoSuchWindow}
 use Rattle.player.specs.declared.Player.{Player}
-use Rattle.player.specs.declared.Turned.{Turned}
+use Rattle.held.specs.declared.Turned.{Turned}
 use Rattle.player.specs.declared.Played.{Played}
 use Rattle.rules.specs.View.{WindowView, PlayerView}
 use Rattle.rules.specs.Shape.{shape}
 use Rattle.rules.specs.Window.{mainAt}
 use Rattle.rules.specs.Rules.{mapWindows}
-use Rattle.player.specs.Promise.{numberOf, mainGuard}
+use Rattle.held.specs.Promise.{numberOf}
+use Rattle.turns.specs.Guards.{mainGuard}
 
 -- what every operation on window w asks first
 unfoldable pub reached : List ℕ → ℕ → PlayerView → Answer
@@ -28,6 +29,10 @@ stored p w t = record {
       (record { count = p .count; limit = p .limit; current = p .current; windows = set (p .windows) w (t .window) })
       p;
 }
+
+-- an operation on window w: what the first checks answer, or the window's turn
+abbrev pub settled : Player → Answer → ℕ → Turned → Played
+settled p a w t = cond (eqb (numberOf a) 0) (stored p (w % 16) t) (record { answer = a; player = p })
 
 -- Main at a window by itself
 abbrev pub mainBy : List Entry → ℕ → ℕ → WindowView → WindowView

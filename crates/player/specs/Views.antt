@@ -8,11 +8,18 @@ use mathlib.Core.Bool.{Bool, true, _&&_}
 use lib.ListN.{length, take, drop, getD, set, drop-of-length-le}
 use lib.Seq.{drop-cons, take-suc-set, drop-set-lt, append-snoc, take-all}
 use Rattle.journal.specs.Cases.{and-left, and-right}
-use Rattle.player.specs.declared.Window.{Window}
+use Rattle.held.specs.declared.Window.{Window}
 use Rattle.rules.specs.View.{WindowView, noWindow}
-use Rattle.player.specs.View.{viewOf, firstWindows}
+use Rattle.held.specs.View.{viewOf}
+use Rattle.player.specs.View.{firstWindows}
 use Rattle.rules.specs.Shape.{allWindows}
 use Rattle.rules.specs.Rules.{mapWindows}
+
+-- an element of a list, whatever stands for one that is not there
+pub getD-any : {A : Type 0} (l : List A) (i : ℕ) (d e : A) → i < length l → getD l i d ≡ getD l i e
+getD-any [] i d e h = absurd (not-suc-le-zero h)
+getD-any (x ∷ l) zero d e h = refl
+getD-any (x ∷ l) (suc i) d e h = getD-any l i d e (le-of-suc-le-suc h)
 
 -- ------------------------------------------------------------------------
 -- firstWindows
@@ -83,10 +90,6 @@ mapWindows-same p f g e w (v ∷ vs) h =
 -- the windows from w on by their rule, and those before as they are: what is left of a walk that has come to window w
 unfoldable pub mapFrom : (ℕ → WindowView → WindowView) → ℕ → List WindowView → List WindowView
 mapFrom f w vs = take w vs ++ mapWindows f w (drop w vs)
-
-pub mapFrom-start : (f : ℕ → WindowView → WindowView) (vs : List WindowView) → mapFrom f 0 vs ≡ mapWindows f 0 vs
-unfolding mapFrom
-mapFrom-start f vs = refl
 
 mapFrom-step : (f : ℕ → WindowView → WindowView) (w : ℕ) (vs : List WindowView) (e : WindowView) → w < length vs →
     mapFrom f (w + 1) (set vs w (f w (getD vs w e))) ≡ mapFrom f w vs

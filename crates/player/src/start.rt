@@ -1,14 +1,9 @@
 // Start: fresh windows from a report of each.
-use crate::Answer;
-use crate::Condition;
-use crate::Head;
 use crate::Played;
 use crate::Player;
-use crate::Window;
+use held::Answer;
+use held::Window;
 use journal::Index;
-use queue::Batches;
-use queue::Queue;
-use rules::Term;
 ghost use Prim.Native.Nat.{_≤_};
 ghost use mathlib.Core.Path.{_≡_};
 ghost use mathlib.Core.Bool.{_&&_};
@@ -16,8 +11,7 @@ ghost use mathlib.Core.List.{map};
 ghost use lib.ListN.{length};
 ghost use lib.Dec.{leb};
 ghost use Rattle.journal.specs.Entry.{entriesOf};
-ghost use Rattle.queue.specs.Items.{freshQueue, freshBatches};
-ghost use Rattle.player.specs.View.{viewOf, playerOf, firstWindows};
+ghost use Rattle.player.specs.View.{playerOf, firstWindows};
 ghost use Rattle.rules.specs.Window.{isReport, started};
 ghost use Rattle.rules.specs.Rules.{areReports, least, startRule};
 ghost use Rattle.player.specs.Promise.{Keeps};
@@ -106,27 +100,6 @@ fn windows_of(reports: &[u32]) -> [Window; 16]
         next += 1;
     }
     windows
-}
-
-impl Window {
-    // A fresh window: Normal, on its first term, the line free and nothing queued; acknowledged and sent are its report.
-    pub fn started(report: Index) -> Window
-        ensures { λ r. ⌜ (viewOf r ≡ started (report .0)) × (r .normal ≡ freshQueue) × (r .«catch_up» ≡ freshQueue) × (r .head .batches ≡ freshBatches) ⌝ }
-    {
-        let head = Head {
-            term: Term(1),
-            acked: report,
-            sent: report,
-            busy: false,
-            batches: Batches::new(),
-            condition: Condition::Normal,
-        };
-        Window {
-            head,
-            normal: Queue::new(),
-            catch_up: Queue::new(),
-        }
-    }
 }
 
 impl Player {

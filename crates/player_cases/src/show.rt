@@ -1,39 +1,23 @@
-// One line for each case.
+// What a case shows.
 use crate::state::State;
+use held::Answer;
+use held::Condition;
+use held::Head;
+use held::Window;
 use journal::Index;
-use player::Answer;
-use player::Condition;
-use player::Head;
 use player::Played;
 use player::Player;
-use player::Window;
 use rules::Term;
-
-fn number(a: Answer) -> u32 {
-    match a {
-        Answer::Done => 0,
-        Answer::OutOfShape => 1,
-        Answer::NoSuchWindow => 2,
-        Answer::Suspended => 3,
-        Answer::NothingToRead => 4,
-        Answer::OtherTerm => 5,
-        Answer::OtherIndex => 6,
-        Answer::NothingReady => 7,
-        Answer::LineState => 8,
-        Answer::TooManyBatches => 9,
-        Answer::CatchUpFull => 10,
-        Answer::NoSuchBatch => 11,
-        Answer::NotSuspended => 12,
-        Answer::BadReport => 13,
-        Answer::LastTerm => 14,
-        Answer::OutputTooShort => 17,
-    }
-}
 
 // The number of what an operation answered.
 fn given(played: Played) -> u32 {
     let answer = played.answer;
-    number(answer)
+    answer.number()
+}
+
+// A byte as it stands.
+pub(crate) fn byte(b: u8) {
+    io::write_all(1, &[b]);
 }
 
 fn field(name: &[u8], n: u64) {
@@ -91,63 +75,84 @@ fn window_of(p: Player, w: usize) -> Window {
     windows[0]
 }
 
-// The case's name and the answer; of a success also `current` and one window as they then are.
-fn answer(name: &[u8], played: Played, w: usize) {
-    io::write_all(1, name);
-    field(b": ", given(played) as u64);
+// The answer; of a success also `current` and one window as they then are.
+fn answer(played: Played, w: usize) {
+    field(b" ", given(played) as u64);
     let answer = played.answer;
     if let Answer::Done = answer {
         let p = played.player;
         field(b", current ", p.current.0 as u64);
         window(window_of(p, w));
     }
-    io::write_all(1, b"\n");
 }
 
-pub(crate) fn main_stream(name: &[u8], s: State, journal: &[u32], index: u32, w: usize) {
-    answer(name, s.player().main(journal, Index(index)), w);
+pub(crate) fn main_stream(s: State, journal: &[u32], index: u32, w: usize) {
+    answer(s.player().main(journal, Index(index)), w);
 }
 
-pub(crate) fn catch(name: &[u8], s: State, journal: &[u32], w: u32, term: u32, index: u32) {
-    let played = s.player().catch(journal, w, Term(term), Index(index));
-    answer(name, played, w as usize);
+pub(crate) fn catch(s: State, journal: &[u32], w: u32, term: u32, index: u32) {
+    answer(
+        s.player().catch(journal, w, Term(term), Index(index)),
+        w as usize,
+    );
 }
 
-pub(crate) fn written(name: &[u8], s: State, journal: &[u32], w: u32, term: u32) {
-    answer(name, s.player().written(journal, w, Term(term)), w as usize);
+pub(crate) fn written(s: State, journal: &[u32], w: u32, term: u32) {
+    answer(s.player().written(journal, w, Term(term)), w as usize);
 }
 
-pub(crate) fn ack(name: &[u8], s: State, journal: &[u32], w: u32, term: u32, index: u32) {
-    let played = s.player().ack(journal, w, Term(term), Index(index));
-    answer(name, played, w as usize);
+pub(crate) fn ack(s: State, journal: &[u32], w: u32, term: u32, index: u32) {
+    answer(
+        s.player().ack(journal, w, Term(term), Index(index)),
+        w as usize,
+    );
 }
 
-pub(crate) fn drop(name: &[u8], s: State, journal: &[u32], w: u32, seen: usize) {
-    answer(name, s.player().drop(journal, w), seen);
+pub(crate) fn drop(s: State, journal: &[u32], w: u32, seen: usize) {
+    answer(s.player().drop(journal, w), seen);
 }
 
-pub(crate) fn join(name: &[u8], s: State, journal: &[u32], w: u32, report: u32) {
-    answer(name, s.player().join(journal, w, Index(report)), w as usize);
+pub(crate) fn join(s: State, journal: &[u32], w: u32, report: u32) {
+    answer(s.player().join(journal, w, Index(report)), w as usize);
+}
+
+// The number of an answer.
+fn brief(played: Played) {
+    field(b" ", given(played) as u64);
+}
+
+fn in_shape(yes: bool) {
+    if yes {
+        io::write_all(1, b" in shape,");
+    } else {
+        io::write_all(1, b" out of shape,");
+    }
+}
+
+// What Main answers with the next index.
+fn next(p: Player, journal: &[u32]) {
+    let current = p.current.0;
+    if current < 4294967295 {
+        brief(p.main(journal, Index(current + 1)));
+    }
 }
 
 // Whether the state is in shape, and what each operation answers: Main with the next index, the others at a window that no player has, with
 // a term and an index that are nobody's.
-pub(crate) fn shape(name: &[u8], s: State, journal: &[u32]) {
+pub(crate) fn shape(s: State, journal: &[u32]) {
     let p = s.player();
-    let next = p.current.0;
-    io::write_all(1, name);
-    if p.in_shape(journal) {
-        io::write_all(1, b": in shape,");
-    } else {
-        io::write_all(1, b": out of shape,");
+    in_shape(p.in_shape(journal));
+    next(p, journal);
+    brief(p.catch(journal, 16, Term(9), Index(9)));
+    brief(p.written(journal, 16, Term(9)));
+    brief(p.ack(journal, 16, Term(9), Index(9)));
+    brief(p.drop(journal, 16));
+    brief(p.join(journal, 16, Index(9)));
+}
+
+// The same over the first `n` numbers of a journal.
+pub(crate) fn shape_of(s: State, journal: &[u32], n: usize) {
+    if n <= journal.len() {
+        shape(s, &journal[0..n]);
     }
-    if next < 4294967295 {
-        field(b" ", given(p.main(journal, Index(next + 1))) as u64);
-    }
-    field(b" ", given(p.catch(journal, 16, Term(9), Index(9))) as u64);
-    field(b" ", given(p.written(journal, 16, Term(9))) as u64);
-    field(b" ", given(p.ack(journal, 16, Term(9), Index(9))) as u64);
-    field(b" ", given(p.drop(journal, 16)) as u64);
-    field(b" ", given(p.join(journal, 16, Index(9))) as u64);
-    io::write_all(1, b"\n");
 }

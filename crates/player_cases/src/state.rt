@@ -1,9 +1,9 @@
 // States made by hand, told by plain numbers.
+use held::Condition;
+use held::Head;
+use held::Window;
 use journal::Index;
-use player::Condition;
-use player::Head;
 use player::Player;
-use player::Window;
 use queue::Batches;
 use queue::Queue;
 use rules::Term;

@@ -8,11 +8,9 @@ use mathlib.Core.List.{List, [], _∷_, _++_}
 use mathlib.Core.Bool.{Bool, true, false, _&&_, and-assoc, and-eq-true-iff}
 use lib.ListN.{length, take, drop, getD, set, length-append, length-drop, List·getD-eq-default, drop-of-length-le}
 use lib.Seq.{drop-cons, drop-nil}
-use lib.Dec.{leb, ltb, eqb, leb·zero}
-use borrow.Author.Tests.{lt-ltb, le-ltb, le-leb, lt-leb, ltb-true, ltb-false, leb-true, leb-false, eqb-true, eqb-false}
-use Rattle.queue.specs.declared.Queue.{Queue}
-use Rattle.queue.specs.declared.Batches.{Batches}
-use Rattle.queue.specs.declared.Found.the-variants.{At, Nothing}
+use lib.Dec.{leb, eqb, leb·zero}
+use borrow.Author.Tests.{lt-ltb, le-ltb, le-leb, lt-leb, eqb-true, eqb-false}
+use Rattle.queue.specs.declared.Found.the-variants.{At}
 use Rattle.queue.specs.Items.{front, itemsOf, batchesOf, freshQueue, freshBatches, pushed, skipped, all, between, heldIn, findFrom}
 
 -- front
@@ -28,21 +26,6 @@ unfolding front
 front-take zero cells h = refl
 front-take (suc n) [] h = absurd (not-suc-le-zero h)
 front-take (suc n) (c ∷ cells) h = ap (λ (t : List ℕ). c ∷ t) (front-take n cells (le-of-suc-le-suc h))
-
-pub front-suc : (n : ℕ) (cells : List ℕ) → front (suc n) cells ≡ front n cells ++ (getD cells n 0 ∷ [])
-unfolding front
-front-suc zero [] = refl
-front-suc zero (c ∷ cells) = refl
-front-suc (suc n) [] = ap (λ (t : List ℕ). 0 ∷ t) (front-suc n [])
-front-suc (suc n) (c ∷ cells) = ap (λ (t : List ℕ). c ∷ t) (front-suc n cells)
-
--- a cell at or past the length does not show
-pub front-set : (n : ℕ) (cells : List ℕ) (i x : ℕ) → n ≤ i → front n (set cells i x) ≡ front n cells
-unfolding front
-front-set zero cells i x h = refl
-front-set (suc n) [] i x h = refl
-front-set (suc n) (c ∷ cells) zero x h = absurd (not-suc-le-zero h)
-front-set (suc n) (c ∷ cells) (suc i) x h = ap (λ (t : List ℕ). c ∷ t) (front-set n cells i x (le-of-suc-le-suc h))
 
 pub front-push : (n : ℕ) (cells : List ℕ) (x : ℕ) → n < length cells → front (suc n) (set cells n x) ≡ front n cells ++ (x ∷ [])
 unfolding front
@@ -91,18 +74,9 @@ front-at n cells i h = rw (add-one, drop-cons (front n cells) i 0 (rw front-leng
 pub front-end : (n : ℕ) (cells : List ℕ) (i : ℕ) → n ≤ i → drop i (front n cells) ≡ []
 front-end n cells i h = drop-of-length-le (front n cells) {i = i} (rw front-length h)
 
--- the items of a queue and of batches: as many as the length says, and none of a fresh one
-pub itemsOf-length : (q : Queue) → length (itemsOf q) ≡ q .len
-unfolding itemsOf
-itemsOf-length q = front-length (q .len) (q .cells)
-
 pub itemsOf-fresh : itemsOf freshQueue ≡ []
 unfolding itemsOf
 itemsOf-fresh = refl
-
-pub batchesOf-length : (b : Batches) → length (batchesOf b) ≡ b .len
-unfolding batchesOf
-batchesOf-length b = front-length (b .len) (b .cells)
 
 pub batchesOf-fresh : batchesOf freshBatches ≡ []
 unfolding batchesOf
@@ -120,13 +94,6 @@ pushed-full size x q h = rw (le-ltb (length q) size h)
 
 pub pushed-length : (size x : ℕ) (q : List ℕ) → length q < size → length (pushed size x q) ≡ suc (length q)
 pushed-length size x q h = rw (pushed-room size x q h, length-append, add-one)
-
-pub pushed-bound : (size x : ℕ) (q : List ℕ) → length q ≤ size → length (pushed size x q) ≤ size
-pushed-bound size x q h = go (ltb (length q) size) refl
-  where
-    go : (b : Bool) → ltb (length q) size ≡ b → length (pushed size x q) ≤ size
-    go true e = rw (pushed-length size x q (ltb-true _ _ e)) (ltb-true _ _ e)
-    go false e = rw (pushed-full size x q (ltb-false _ _ e)) h
 
 -- the items that a store at the length makes, and those of a row with no room
 pub pushed-front-room : (size x n : ℕ) (cells : List ℕ) → length cells ≡ size → n < size → front (n + 1) (set cells n x) ≡ pushed size x (front n cells)
@@ -157,9 +124,6 @@ skipped-front-over size k n cells h = sym (skipped-over size k (front n cells) (
 -- what is left of the items of a row that has no more than it may
 pub skipped-front-fits : (size k n : ℕ) (cells : List ℕ) → n ≤ size → skipped size k (front n cells) ≡ drop k (front n cells)
 skipped-front-fits size k n cells h = skipped-fits size k (front n cells) (rw front-length h)
-
-pub skipped-bound : (size k : ℕ) (q : List ℕ) → length q ≤ size → length (skipped size k q) ≤ size
-skipped-bound size k q h = rw (skipped-length size k q h) (omega arith)
 
 -- all
 
@@ -194,27 +158,6 @@ all-drop p zero xs h = h
 all-drop p (suc k) [] h = refl
 all-drop p (suc k) (x ∷ xs) h = all-drop p k xs (and-eq-true-iff (p x) (all p xs) .0 h .1)
 
-pub all-getD : (p : ℕ → Bool) (xs : List ℕ) → all p xs ≡ true → (i : ℕ) → i < length xs → p (getD xs i 0) ≡ true
-unfolding all
-all-getD p [] h i l = absurd (not-suc-le-zero l)
-all-getD p (x ∷ xs) h zero l = and-eq-true-iff (p x) (all p xs) .0 h .0
-all-getD p (x ∷ xs) h (suc i) l = all-getD p xs (and-eq-true-iff (p x) (all p xs) .0 h .1) i (le-of-suc-le-suc l)
-
-pub all-pushed : (p : ℕ → Bool) (size x : ℕ) (q : List ℕ) → all p q ≡ true → p x ≡ true → all p (pushed size x q) ≡ true
-unfolding all
-all-pushed p size x q h hx = go (ltb (length q) size) refl
-  where
-    go : (b : Bool) → ltb (length q) size ≡ b → all p (pushed size x q) ≡ true
-    go true e = rw (pushed-room size x q (ltb-true _ _ e), all-append, h, hx)
-    go false e = rw (pushed-full size x q (ltb-false _ _ e)) h
-
-pub all-skipped : (p : ℕ → Bool) (size k : ℕ) (q : List ℕ) → all p q ≡ true → all p (skipped size k q) ≡ true
-all-skipped p size k q h = go (leb (length q) size) refl
-  where
-    go : (b : Bool) → leb (length q) size ≡ b → all p (skipped size k q) ≡ true
-    go true e = rw (skipped-fits size k q (leb-true _ _ e)) (all-drop p k q h)
-    go false e = rw (skipped-over size k q (leb-false _ _ e)) h
-
 pub all-held : (l : ℕ) (xs : List ℕ) → all (between 0 l) xs ≡ all (heldIn l) xs
 all-held l = all-cong (between 0 l) (heldIn l) (λ x. rw leb·zero)
 
@@ -245,23 +188,3 @@ findFrom-hit x j (y ∷ ys) k e = go (findFrom-hit x (suc j) ys k) (eqb y x) ref
 
 pub findFrom-bound : (x k : ℕ) (xs : List ℕ) → findFrom x 0 xs ≡ At k → k < length xs
 findFrom-bound x k xs e = let h = findFrom-hit x 0 xs k e in omega (arith, h .1, h .2)
-
-pub findFrom-item : (x k : ℕ) (xs : List ℕ) → findFrom x 0 xs ≡ At k → getD xs k 0 ≡ x
-findFrom-item x k xs e =
-    let h = findFrom-hit x 0 xs k e in
-    let p : k ≡ h .0 = omega (arith, h .1) in
-    rw p (h .3)
-
-pub findFrom-first : (x k : ℕ) (xs : List ℕ) → findFrom x 0 xs ≡ At k → (i : ℕ) → i < k → getD xs i 0 ≡ x → ⊥
-findFrom-first x k xs e i l = let h = findFrom-hit x 0 xs k e in h .4 i (omega (arith, h .1))
-
-pub findFrom-nothing : (x k : ℕ) (xs : List ℕ) → findFrom x k xs ≡ Nothing → (i : ℕ) → i < length xs → getD xs i 0 ≡ x → ⊥
-unfolding findFrom
-findFrom-nothing x k [] e i l = absurd (not-suc-le-zero l)
-findFrom-nothing x k (y ∷ ys) e i l = go (findFrom-nothing x (suc k) ys) (eqb y x) refl i l
-  where
-    go : (findFrom x (suc k) ys ≡ Nothing → (i : ℕ) → i < length ys → getD ys i 0 ≡ x → ⊥)
-        → (b : Bool) → eqb y x ≡ b → (i : ℕ) → i < suc (length ys) → getD (y ∷ ys) i 0 ≡ x → ⊥
-    go ih true t i l = let q : At k ≡ Nothing = rw t at e in let z : _≡_ {A = ℕ} 0 1 = cc in absurd (omega arith)
-    go ih false t zero l = eqb-false y x t
-    go ih false t (suc i) l = ih (rw t at e) i (le-of-suc-le-suc l)

@@ -1,23 +1,37 @@
-// One line of output: a label, and what stands behind it.
+// What a letter shows, each with a blank before it.
 use queue::Batches;
 use queue::Found;
 use queue::Queue;
 
-// The label, and a colon.
-fn label(name: &[u8]) {
-    io::write_all(1, name);
-    io::write_all(1, b":");
+// A byte as it stands.
+pub(crate) fn byte(b: u8) {
+    io::write_all(1, &[b]);
 }
 
 // A blank, and a number.
 fn value(n: u64) {
-    io::write_all(1, b" ");
+    byte(b' ');
     io::print_decimal(1, n);
 }
 
-// A line end.
-fn end() {
-    io::write_all(1, b"\n");
+fn answer(yes: bool) {
+    if yes {
+        io::write_all(1, b" yes");
+    } else {
+        io::write_all(1, b" no");
+    }
+}
+
+fn place(f: Found) {
+    match f {
+        Found::At(k) => {
+            io::write_all(1, b" at");
+            value(k as u64);
+        }
+        Found::Nothing => {
+            io::write_all(1, b" nothing");
+        }
+    }
 }
 
 // The index at the place k, where there is one.
@@ -28,33 +42,21 @@ fn index(q: Queue, k: usize) {
 }
 
 // Up to four of a queue's indices.
-pub(crate) fn indices(name: &[u8], q: Queue) {
-    label(name);
+fn indices(q: Queue) {
     index(q, 0);
     index(q, 1);
     index(q, 2);
     index(q, 3);
-    end();
 }
 
-pub(crate) fn size(name: &[u8], q: Queue) {
-    label(name);
-    value(q.size() as u64);
-    end();
-}
-
-pub(crate) fn item(name: &[u8], q: Queue, k: usize) {
-    label(name);
-    value(q.item(k) as u64);
-    end();
-}
-
-pub(crate) fn flag(name: &[u8], yes: bool) {
-    label(name);
-    if yes {
-        io::write_all(1, b" yes\n");
-    } else {
-        io::write_all(1, b" no\n");
+// What a letter shows of a queue; nothing where it is none of these.
+pub(crate) fn queue(q: Queue, at: usize, bound: u32, letter: u8) {
+    match letter {
+        b'i' => indices(q),
+        b'z' => value(q.size() as u64),
+        b'a' => value(q.item(at) as u64),
+        b'w' => answer(q.within(bound)),
+        _ => {}
     }
 }
 
@@ -66,8 +68,7 @@ fn batch(b: Batches, k: usize) {
 }
 
 // Up to nine of the batches.
-pub(crate) fn held(name: &[u8], b: Batches) {
-    label(name);
+fn row(b: Batches) {
     batch(b, 0);
     batch(b, 1);
     batch(b, 2);
@@ -77,31 +78,16 @@ pub(crate) fn held(name: &[u8], b: Batches) {
     batch(b, 6);
     batch(b, 7);
     batch(b, 8);
-    end();
 }
 
-pub(crate) fn held_size(name: &[u8], b: Batches) {
-    label(name);
-    value(b.size() as u64);
-    end();
-}
-
-pub(crate) fn held_item(name: &[u8], b: Batches, k: usize) {
-    label(name);
-    value(b.item(k) as u64);
-    end();
-}
-
-pub(crate) fn place(name: &[u8], f: Found) {
-    label(name);
-    match f {
-        Found::At(k) => {
-            io::write_all(1, b" at");
-            value(k as u64);
-        }
-        Found::Nothing => {
-            io::write_all(1, b" nothing");
-        }
+// What a letter shows of batches; nothing where it is none of these.
+pub(crate) fn batches(b: Batches, at: usize, bound: u32, letter: u8) {
+    match letter {
+        b'I' => row(b),
+        b'Z' => value(b.size() as u64),
+        b'A' => value(b.item(at) as u64),
+        b'W' => answer(b.within(bound)),
+        b'F' => place(b.find(bound)),
+        _ => {}
     }
-    end();
 }

@@ -6,9 +6,9 @@ use mathlib.Core.List.{List, [], _∷_}
 use mathlib.Core.Bool.{Bool, true, false, not, cond}
 use native.Mathlib.Omega.{arith}
 use native.Mathlib.Nat.{zero-add}
-use borrow.Author.Tests.{eqb-true, eqb-false, ltb-true, eq-eqb, ne-eqb, lt-ltb, le-ltb}
-use lib.ListN.{length, getD, length-set, List·getD-eq-default}
-use lib.Seq.{set-getD, getD-set-other, getD-set-same}
+use borrow.Author.Tests.{eqb-true, eqb-false, ltb-true, eq-eqb, ne-eqb, lt-ltb}
+use lib.ListN.{length, getD, List·getD-eq-default}
+use lib.Seq.{set-getD, getD-set-other}
 use lib.Dec.{ltb, eqb}
 use Rattle.journal.specs.declared.Entry.{Entry}
 use Rattle.journal.specs.Cases.{le-or-lt}
@@ -32,10 +32,6 @@ pub record Operated (ns : List ℕ) (w : ℕ) (p : PlayerView) (o : Outcome) (T 
   pub turn : T
   pub next : o .next ≡ withWindow w (after turn) p
 
-pub operated-at : {ns : List ℕ} {w : ℕ} {p : PlayerView} {o : Outcome} {T : Type 0} {after : T → WindowView} (d : Operated ns w p o T after) →
-    windowAt w (o .next) ≡ after (d .turn)
-operated-at {w} {p} d = ap (windowAt w) (d .next) ∙ getD-set-same (p .windows) w _ noWindow (d .within)
-
 module _ (ns : List ℕ) (w : ℕ) (f : WindowView → Turn) (p : PlayerView) where
   -- what holds of both refusals and, in shape and at a window that is there, of the window's turn, holds of the operation
   pub operate-cases : (P : Outcome → Type 0) → P (refuse 1 p) → P (refuse 2 p) →
@@ -52,10 +48,6 @@ module _ (ns : List ℕ) (w : ℕ) (f : WindowView → Turn) (p : PlayerView) wh
   pub operate-in : shape ns p ≡ true → w < length (p .windows) → operate ns w f p ≡ turned w (f (windowAt w p)) p
   unfolding operate
   operate-in s h = simp (s, lt-ltb w (length (p .windows)) h)
-
-  pub operate-none : shape ns p ≡ true → length (p .windows) ≤ w → operate ns w f p ≡ refuse 2 p
-  unfolding operate
-  operate-none s h = simp (s, le-ltb w (length (p .windows)) h)
 
   pub operate-done : operate ns w f p .answer ≡ 0 → Operated ns w p (operate ns w f p) (f (windowAt w p) .answer ≡ 0) (λ e. f (windowAt w p) .next)
   operate-done =
@@ -77,12 +69,6 @@ module _ (ns : List ℕ) (w : ℕ) (f : WindowView → Turn) (p : PlayerView) wh
 
   pub operate-limit : operate ns w f p .next .limit ≡ p .limit
   operate-limit = operate-cases (λ o. o .next .limit ≡ p .limit) refl refl (λ s h. refl)
-
-  pub operate-current : operate ns w f p .next .current ≡ p .current
-  operate-current = operate-cases (λ o. o .next .current ≡ p .current) refl refl (λ s h. refl)
-
-  pub operate-count : length (operate ns w f p .next .windows) ≡ length (p .windows)
-  operate-count = operate-cases (λ o. length (o .next .windows) ≡ length (p .windows)) refl refl (λ s h. length-set (p .windows) w _)
 
   -- operate-done, where the turn's answer 0 gives a record of Turns
   operate-as : (T : Type 0) (after : T → WindowView) (take : f (windowAt w p) .answer ≡ 0 → T) →

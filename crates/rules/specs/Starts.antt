@@ -5,11 +5,11 @@ use mathlib.Core.List.{List, [], _∷_, map}
 use mathlib.Core.Bool.{Bool, true, false, not, cond, _&&_}
 use native.Mathlib.Omega.{arith}
 use native.Mathlib.Nat.{min-le-left, min-le-right}
-use borrow.Author.Tests.{eqb-true, leb-true, eq-eqb, le-leb}
+use borrow.Author.Tests.{eqb-true, leb-true}
 use lib.ListN.{length, getD}
 use lib.Dec.{leb, eqb}
 use Rattle.journal.specs.declared.Entry.{Entry}
-use Rattle.journal.specs.Cases.{and-left, and-right, and-intro}
+use Rattle.journal.specs.Cases.{and-left, and-right}
 use Rattle.journal.specs.Entry.{inShape, entriesOf}
 use Rattle.rules.specs.View.{PlayerView}
 use Rattle.rules.specs.Shape.{countFits, limitFits}
@@ -113,11 +113,3 @@ module _ (ns : List ℕ) (count limit : ℕ) (reports : List ℕ) (p : PlayerVie
   pub startRule-refuses : (startRule ns count limit reports p .answer ≡ 0 → ⊥) → startRule ns count limit reports p .next ≡ p
   startRule-refuses =
       startRule-cases (λ o. (o .answer ≡ 0 → ⊥) → o .next ≡ p) (λ n. refl) (λ n. refl) (λ g n. absurd (n refl))
-
-  pub startRule-can : Startable ns count limit reports → startRule ns count limit reports p ≡ record { answer = 0; next = startNext limit reports }
-  unfolding startRule
-  startRule-can g =
-      let fits : (countFits count && (limitFits limit && (inShape ns && eqb (length reports) count))) ≡ true =
-      and-intro (and-intro (le-leb _ _ (g .some)) (le-leb _ _ (g .most)))
-      (and-intro (and-intro (le-leb _ _ (g .limitSome)) (le-leb _ _ (g .limitMost))) (and-intro (g .journal) (eq-eqb _ _ (g .each)))) in
-      rw (fits, g .right)

@@ -1,5 +1,5 @@
 -- A stage that code holds has sixteen records and sixteen tracks, and its player sixteen windows, whatever its count says.
-use Prim.Native.Nat.{ℕ, _≤_}
+use Prim.Native.Nat.{_≤_}
 use mathlib.Core.Path.{_≡_, sym, _∙_}
 use mathlib.Core.List.{List}
 use lib.ListN.{length, length-map}

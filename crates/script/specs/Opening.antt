@@ -4,7 +4,7 @@ use mathlib.Core.Path.{_≡_, refl, sym, ap, ap₂, _∙_}
 use mathlib.Core.List.{List, [], _∷_, map}
 use mathlib.Core.Bool.{Bool, true, false, not, cond, _&&_, true≢false}
 use native.Mathlib.Omega.{arith}
-use borrow.Author.Tests.{eqb-true, lt-leb}
+use borrow.Author.Tests.{eqb-true, eqb-false, lt-leb}
 use lib.ListN.{length, take, replicate, length-replicate, length-map}
 use lib.Dec.{eqb, leb}
 use Rattle.journal.specs.declared.Entry.{Entry}
@@ -21,23 +21,33 @@ use Rattle.rules.specs.Shape.{countFits, limitFits}
 use Rattle.rules.specs.Window.{started}
 use Rattle.rules.specs.Rules.{refuse, areReports, least, startRule}
 use Rattle.rules.specs.Starts.{startNext, startRule-done}
-use Rattle.player.specs.Promise.{numberOf, Keeps}
-use Rattle.delivery.specs.World.{newPlace, opened}
+use Rattle.held.specs.Promise.{numberOf}
+use Rattle.player.specs.Promise.{Keeps}
+use Rattle.delivery.specs.World.{World, newPlace, opened}
 use Rattle.delivery.specs.Statement.{firstStart}
 use Rattle.script.specs.declared.Track.{Track}
 use Rattle.script.specs.declared.Stage.{Stage}
 use Rattle.script.specs.declared.Opened.{Opened}
 use Rattle.script.specs.Stage.{placeOf, placesOf, worldOf}
-use Rattle.script.specs.Places.{numbersOf-entriesOf}
+use Rattle.journal.specs.EntryLaws.{numbersOf-entriesOf}
 
 -- empty lines
 abbrev pub freshTrack : Track
 freshTrack = record { line = freshQueue; back = freshQueue }
 
--- The stage is opened where the first Start is answered 0, and is then the world after it, whatever a player held before
+-- a player, and a world, with no windows
+abbrev pub noPlayer : PlayerView
+noPlayer = record { limit = 0; current = 0; windows = [] }
+
+abbrev pub noWorld : List Entry → World
+noWorld j = record { journal = j; limit = 0; current = 0; places = [] }
+
+-- The stage is opened where the first Start is answered 0, and is then the world after it, whatever a player held before; where it is not
+-- opened it has no windows
 pub record Opens (ns : List ℕ) (count : ℕ) (r : Opened) : Type 0 where
   pub ok : (before : PlayerView) → r .ok ≡ eqb (startRule ns count 2 (replicate count 0) before .answer) 0
   pub world : (before : PlayerView) → r .ok ≡ true → worldOf (entriesOf ns) (r .stage) ≡ opened (entriesOf ns) (firstStart before (entriesOf ns) count 2)
+  pub shut : r .ok ≡ false → worldOf (entriesOf ns) (r .stage) ≡ noWorld (entriesOf ns)
 
 -- ------------------------------------------------------------------------
 -- placesOf
@@ -87,18 +97,29 @@ replicate-take (suc n) (suc m) x h = ap (λ l. x ∷ l) (replicate-take n m x (o
 pub reports-count : (n : ℕ) → n ≤ 16 → n ≡ length (take {A = ℕ} n (replicate 16 0))
 reports-count n h = sym (ap length (replicate-take n 16 0 h) ∙ length-replicate n 0)
 
+-- new records and empty lines round a player
+abbrev pub aroundPlayer : Player → Stage
+aroundPlayer p = record { player = p; records = replicate 16 newRecord; tracks = replicate 16 freshTrack }
+
+shut-world : (j : List Entry) (p : Player) → playerOf p ≡ noPlayer → worldOf j (aroundPlayer p) ≡ noWorld j
+unfolding worldOf placesOf
+shut-world j p e =
+    ap (λ q. record { journal = j; limit = q .limit; current = q .current; places = placesOf j (q .windows) (replicate 16 newRecord) (replicate 16 freshTrack) })
+    e
+
 module _ (ns : List ℕ) (count : ℕ) where
-  pub opens-over : (s : Stage) → 16 < count → Opens ns count (record { ok = false; stage = s })
-  opens-over s h = record {
+  pub opens-over : (p : Player) → playerOf p ≡ noPlayer → 16 < count → Opens ns count (record { ok = false; stage = aroundPlayer p })
+  opens-over p b h = record {
     ok = λ before. sym (ap (λ o. eqb (o .answer) 0) (startRule-over ns count 2 (replicate count 0) before h));
     world = λ before e. absurd (true≢false (sym e));
+    shut = λ e. shut-world (entriesOf ns) p b;
   }
 
-  pub opens-start : (p : Player) (r : Played) (reports : List ℕ) → count ≤ 16 → reports ≡ take {A = ℕ} count (replicate 16 0) →
+  pub opens-start : (p : Player) → playerOf p ≡ noPlayer → (r : Played) (reports : List ℕ) → count ≤ 16 → reports ≡ take {A = ℕ} count (replicate 16 0) →
       Keeps p r (startRule ns count 2 reports (playerOf p)) →
-      Opens ns count (record { ok = eqb (numberOf (r .answer)) 0; stage = record { player = r .player; records = replicate 16 newRecord; tracks = replicate 16 freshTrack } })
+      Opens ns count (record { ok = eqb (numberOf (r .answer)) 0; stage = aroundPlayer (r .player) })
   unfolding worldOf opened
-  opens-start p r reports h e k =
+  opens-start p b r reports h e k =
       let zeros : reports ≡ replicate count 0 = e ∙ replicate-take count 16 0 h in
       let same : (before : PlayerView) → numberOf (r .answer) ≡ startRule ns count 2 (replicate count 0) before .answer
       = λ before. k .answer ∙ ap (λ x. startRule ns count 2 x (playerOf p) .answer) zeros ∙ startRule-answer ns count 2 (replicate count 0) (playerOf p) before in
@@ -115,4 +136,7 @@ module _ (ns : List ℕ) (count : ℕ) where
             (placesOf-new (entriesOf ns) 16 (map started (replicate count 0)) (simp (length-map, length-replicate) h))
             ∙ ap (λ q. record { journal = entriesOf ns; limit = q .limit; current = q .current; places = map newPlace (q .windows) })
             (sym (ap (λ x. startRule x count 2 (replicate count 0) before .next) ns′ ∙ f .next));
+        shut = λ z.
+            ap (λ q. worldOf (entriesOf ns) (aroundPlayer q)) (k .kept (λ n. eqb-false _ _ z (k .answer ∙ n)))
+            ∙ shut-world (entriesOf ns) p b;
       }

@@ -1,11 +1,10 @@
 -- Laws of the places that a stage shows, of a world without its history, and of the journal's numbers.
-use Prim.Native.Nat.{ℕ, zero, suc, _%_, _≤_, _<_}
+use Prim.Native.Nat.{ℕ, zero, suc, _≤_, _<_}
 use mathlib.Core.Path.{_≡_, refl, ap, ap₂}
 use mathlib.Core.List.{List, [], _∷_, map}
 use native.Mathlib.Omega.{arith}
 use lib.ListN.{length, getD, set}
 use Rattle.journal.specs.declared.Entry.{Entry}
-use Rattle.journal.specs.Entry.{entriesOf, numbersOf}
 use Rattle.queue.specs.Items.{itemsOf}
 use Rattle.window.specs.declared.Record.{Record}
 use Rattle.window.specs.Record.{newRecord}
@@ -14,18 +13,6 @@ use Rattle.rules.specs.View.{WindowView, PlayerView, noWindow}
 use Rattle.delivery.specs.World.{Place, World, noPlace, withView, withViews, withPlayer, withPlace}
 use Rattle.script.specs.declared.Track.{Track}
 use Rattle.script.specs.Stage.{noTrack, sentOf, ackOf, placeOf, placesOf, forget, forgotten}
-
--- ------------------------------------------------------------------------
--- numbersOf
-
--- the numbers of a journal in shape are those of its entries
-pub numbersOf-entriesOf : (ns : List ℕ) → length ns % 4 ≡ 0 → numbersOf (entriesOf ns) ≡ ns
-unfolding entriesOf numbersOf
-numbersOf-entriesOf [] h = refl
-numbersOf-entriesOf (a ∷ []) h = absurd (omega arith)
-numbersOf-entriesOf (a ∷ b ∷ []) h = absurd (omega arith)
-numbersOf-entriesOf (a ∷ b ∷ c ∷ []) h = absurd (omega arith)
-numbersOf-entriesOf (a ∷ b ∷ c ∷ d ∷ ns) h = ap (λ l. a ∷ b ∷ c ∷ d ∷ l) (numbersOf-entriesOf ns (omega arith))
 
 -- ------------------------------------------------------------------------
 -- placesOf

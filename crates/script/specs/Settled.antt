@@ -26,7 +26,8 @@ use Rattle.rules.specs.View.{WindowView, PlayerView, noWindow}
 use Rattle.player.specs.View.{playerOf}
 use Rattle.rules.specs.Rules.{Outcome, windowAt, withWindow, ackRule, joinRule}
 use Rattle.rules.specs.Laws.{ackRule-done, joinRule-done}
-use Rattle.player.specs.Promise.{numberOf, Keeps}
+use Rattle.held.specs.Promise.{numberOf}
+use Rattle.player.specs.Promise.{Keeps}
 use Rattle.delivery.specs.World.{Sent, Place, World, placeAt, numbersIn, playerIn, withView, withLines, withPlayer, withPlace, takeFront, answered, calledThen, takeAtLine, ackAtLine, cleared}
 use Rattle.delivery.specs.World as W
 use Rattle.delivery.specs.Worlds.{withPlayer-same, withPlayer-window, withPlace-here, withPlace-twice}

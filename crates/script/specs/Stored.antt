@@ -11,7 +11,7 @@ use Rattle.window.specs.declared.Taken.{Taken}
 use Rattle.window.specs.Record.{newRecord}
 use Rattle.window.specs.Record as Window
 use Rattle.player.specs.declared.Played.{Played}
-use Rattle.player.specs.Promise.{numberOf}
+use Rattle.held.specs.Promise.{numberOf}
 use Rattle.script.specs.declared.Track.{Track}
 use Rattle.script.specs.declared.Stage.{Stage}
 use Rattle.script.specs.declared.Reply.the-variants.{Answered}

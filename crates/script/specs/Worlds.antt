@@ -1,7 +1,7 @@
 -- Laws of a stage as a world: the player in it, a window's place, and a stage of which a part is replaced.
-use Prim.Native.Nat.{ℕ, zero, suc, _≤_, _<_}
-use mathlib.Core.Path.{_≡_, refl, sym, ap, _∙_}
-use mathlib.Core.List.{List, [], _∷_}
+use Prim.Native.Nat.{ℕ, _≤_, _<_}
+use mathlib.Core.Path.{_≡_, sym, ap, _∙_}
+use mathlib.Core.List.{List}
 use mathlib.Core.Bool.{true}
 use native.Mathlib.Omega.{arith}
 use borrow.Author.Tests.{eqb-true}
@@ -12,10 +12,11 @@ use Rattle.journal.specs.Entry.{inShape, entriesOf}
 use Rattle.queue.specs.Items.{itemsOf}
 use Rattle.window.specs.declared.Record.{Record}
 use Rattle.window.specs.Record.{newRecord}
-use Rattle.player.specs.declared.Window.{Window}
+use Rattle.held.specs.declared.Window.{Window}
 use Rattle.player.specs.declared.Player.{Player}
 use Rattle.rules.specs.View.{WindowView, PlayerView, noWindow}
-use Rattle.player.specs.View.{viewOf, playerOf}
+use Rattle.held.specs.View.{viewOf}
+use Rattle.player.specs.View.{playerOf}
 use Rattle.player.specs.Views.{firstWindows-length, firstWindows-at}
 use Rattle.rules.specs.Rules.{windowAt, withWindow}
 use Rattle.delivery.specs.World.{noPlace, placeAt, numbersIn, playerIn, withPlayer, withPlace}
@@ -24,13 +25,8 @@ use Rattle.script.specs.declared.Track.{Track}
 use Rattle.script.specs.declared.Stage.{Stage}
 use Rattle.script.specs.Stage.{placeOf, placesOf, worldOf, forgotten}
 use Rattle.script.specs.Stored.{trackAt}
-use Rattle.script.specs.Places.{numbersOf-entriesOf, termsOf, placesOf-length, placesOf-forget, placesOf-views, placesOf-at, placesOf-set, placesOf-with, forgotten-player}
-
--- what stands at a place that is there, whatever would stand past the end
-pub getD-any : {A : Type 0} (l : List A) (i : ℕ) (d e : A) → i < length l → getD l i d ≡ getD l i e
-getD-any [] i d e h = absurd (omega arith)
-getD-any (x ∷ l) zero d e h = refl
-getD-any (x ∷ l) (suc i) d e h = getD-any l i d e (omega arith)
+use Rattle.journal.specs.EntryLaws.{numbersOf-entriesOf}
+use Rattle.script.specs.Places.{termsOf, placesOf-length, placesOf-forget, placesOf-views, placesOf-at, placesOf-set, placesOf-with, forgotten-player}
 
 -- a player shows as many windows as its count says
 pub playerOf-count : (p : Player) → length (playerOf p .windows) ≡ p .count

@@ -2,19 +2,19 @@
 use crate::Opened;
 use crate::Stage;
 use crate::Track;
-use crate::play;
+use held::Window;
 use journal::Index;
 use player::Player;
-use player::Window;
 use queue::Queue;
 use window::Record;
 ghost use mathlib.Core.Path.{_≡_};
-ghost use lib.ListN.{replicate};
-ghost use Rattle.window.specs.Record.{newRecord};
-ghost use Rattle.script.specs.Opening.{freshTrack, Opens};
+ghost use Rattle.player.specs.View.{playerOf};
+ghost use Rattle.script.specs.Opening.{noPlayer, aroundPlayer, Opens};
 
 // A player with no windows.
-fn blank() -> Player {
+fn blank() -> Player
+    ensures { λ r. ⌜ playerOf r ≡ noPlayer ⌝ }
+{
     let window = Window::started(Index(0));
     let windows = [window; 16];
     Player {
@@ -27,7 +27,7 @@ fn blank() -> Player {
 
 // New records and empty lines round a player.
 fn around(player: Player) -> Stage
-    ensures { λ r. ⌜ r ≡ record { player = player; records = replicate 16 newRecord; tracks = replicate 16 freshTrack } ⌝ }
+    ensures { λ r. ⌜ r ≡ aroundPlayer player ⌝ }
 {
     let record = Record::new();
     let records = [record; 16];
@@ -44,7 +44,8 @@ fn around(player: Player) -> Stage
 }
 
 impl Stage {
-    // A stage after a first Start with so many windows, the batch limit 2 and a report of 0 from each. Not opened where that is refused.
+    // A stage after a first Start with so many windows, the batch limit 2 and a report of 0 from each; not opened, and with no windows,
+    // where that is refused.
     pub fn open(journal: &[u32], count: u32) -> Opened
         ensures { λ r. ⌜ Opens (now (journal .entry)) count r ⌝ }
     {
@@ -60,7 +61,7 @@ impl Stage {
         let played = player.start(journal, count, 2, &reports[..end]);
         let answer = played.answer;
         let next = played.player;
-        let number = play::number_of(answer);
+        let number = answer.number();
         Opened {
             ok: number == 0,
             stage: around(next),

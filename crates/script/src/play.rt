@@ -4,63 +4,25 @@ use crate::Stage;
 use crate::Step;
 use crate::Stepped;
 use crate::Track;
+use held::Condition;
 use journal::Index;
-use player::Answer;
-use player::Condition;
 use player::Played;
 use player::Player;
 use queue::Queue;
 use rules::Term;
 use window::Record;
 use window::Taken;
-ghost use Prim.Native.Nat.{_+_, _*_, _/_, _≤_, _<_};
+ghost use Prim.Native.Nat.{_+_, _≤_, _<_};
 ghost use mathlib.Core.Path.{_≡_};
-ghost use mathlib.Core.Bool.{true, _&&_};
-ghost use Rattle.journal.specs.Entry.{inShape, entriesOf, placedAt};
+ghost use Rattle.journal.specs.Entry.{entriesOf};
 ghost use Rattle.queue.specs.Items.{itemsOf};
-ghost use Rattle.window.specs.Record as Window;
-ghost use Rattle.player.specs.View.{stateOf, playerOf};
+ghost use Rattle.held.specs.View.{stateOf};
+ghost use Rattle.player.specs.View.{playerOf};
 ghost use Rattle.rules.specs.Rules.{windowAt};
-ghost use Rattle.player.specs.Promise.{numberOf};
 ghost use Rattle.script.specs.declared.Step.the-variants.{Main, Catch, Send, Written, Ack, Drop, Join, Take};
 ghost use Rattle.script.specs.Stage.{dueIn, windowOf, roomAt};
 ghost use Rattle.script.specs.Promise.{Playable, Steps, Plays};
 ghost use Rattle.script.specs.Stored.{recordAt, trackAt, SameItems, ackPushed, loadedBy, calledBy, settledBy, tookBy};
-
-// Document 01's number of a player's answer.
-pub fn number_of(answer: Answer) -> u32
-    ensures { λ r. ⌜ r ≡ numberOf answer ⌝ }
-{
-    match answer {
-        Answer::Done => 0,
-        Answer::OutOfShape => 1,
-        Answer::NoSuchWindow => 2,
-        Answer::Suspended => 3,
-        Answer::NothingToRead => 4,
-        Answer::OtherTerm => 5,
-        Answer::OtherIndex => 6,
-        Answer::NothingReady => 7,
-        Answer::LineState => 8,
-        Answer::TooManyBatches => 9,
-        Answer::CatchUpFull => 10,
-        Answer::NoSuchBatch => 11,
-        Answer::NotSuspended => 12,
-        Answer::BadReport => 13,
-        Answer::LastTerm => 14,
-        Answer::OutputTooShort => 17,
-    }
-}
-
-// Document 01's number of a window's answer.
-fn number_taken(answer: window::Answer) -> u32
-    ensures { λ r. ⌜ r ≡ Window.numberOf answer ⌝ }
-{
-    match answer {
-        window::Answer::Done => 0,
-        window::Answer::OutOfShape => 1,
-        window::Answer::Full => 15,
-    }
-}
 
 // The term of window w, or 0 where there is no such window.
 fn term_at(player: Player, w: u32) -> Term
@@ -211,9 +173,9 @@ impl Stage {
         let player = played.player;
         let records = self.records;
         let tracks = self.tracks;
-        let answer = played.answer;
+        let given = played.answer;
         Stepped {
-            reply: Reply::Answered(number_of(answer)),
+            reply: Reply::Answered(given.number()),
             stage: Stage {
                 player,
                 records,
@@ -230,7 +192,7 @@ impl Stage {
             return self.called(played);
         }
         let answer = played.answer;
-        if number_of(answer) != 0 {
+        if answer.number() != 0 {
             return self.called(played);
         }
         let at = w as usize;
@@ -249,9 +211,9 @@ impl Stage {
         let record = taken.record;
         stage.records[at] = record;
         stage.tracks[at] = track;
-        let answer = taken.answer;
+        let taking = taken.answer;
         Stepped {
-            reply: Reply::Answered(number_taken(answer)),
+            reply: Reply::Answered(taking.number()),
             stage,
         }
     }

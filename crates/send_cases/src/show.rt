@@ -1,32 +1,16 @@
-// One line for each case: the answer, what the player then holds, and the output.
-use player::Answer;
-use player::Condition;
-use player::Head;
+// What a case shows: the answer, what the player then holds, and the output.
+use held::Answer;
+use held::Condition;
+use held::Head;
+use held::Window;
 use player::Played;
 use player::Player;
-use player::Window;
 use queue::Batches;
 use queue::Queue;
 
-fn number(a: Answer) -> u32 {
-    match a {
-        Answer::Done => 0,
-        Answer::OutOfShape => 1,
-        Answer::NoSuchWindow => 2,
-        Answer::Suspended => 3,
-        Answer::NothingToRead => 4,
-        Answer::OtherTerm => 5,
-        Answer::OtherIndex => 6,
-        Answer::NothingReady => 7,
-        Answer::LineState => 8,
-        Answer::TooManyBatches => 9,
-        Answer::CatchUpFull => 10,
-        Answer::NoSuchBatch => 11,
-        Answer::NotSuspended => 12,
-        Answer::BadReport => 13,
-        Answer::LastTerm => 14,
-        Answer::OutputTooShort => 17,
-    }
+// A byte as it stands.
+pub(crate) fn byte(b: u8) {
+    io::write_all(1, &[b]);
 }
 
 fn field(name: &[u8], n: u32) {
@@ -124,7 +108,7 @@ fn fifteen(n: usize) -> usize {
 }
 
 // The last fifteen numbers of the output at most.
-fn numbers(out: &[u32]) {
+pub(crate) fn numbers(out: &[u32]) {
     io::write_all(1, b", out");
     let mut k = fifteen(out.len());
     while k < out.len() {
@@ -133,41 +117,30 @@ fn numbers(out: &[u32]) {
     }
 }
 
-fn label(name: &[u8], answer: Answer) {
-    io::write_all(1, name);
-    field(b": ", number(answer));
-    io::write_all(1, b",");
+pub(crate) fn answer(given: Answer) {
+    field(b" ", given.number());
 }
 
-// The name, the answer, window 1 as it then is, and the output.
-pub(crate) fn sent(name: &[u8], played: Played, out: &[u32]) {
-    let answer = played.answer;
+// The answer, window 1 as it then is, and the output.
+pub(crate) fn sent(played: Played, out: &[u32]) {
+    let given = played.answer;
     let p = played.player;
     let windows = p.windows;
-    label(name, answer);
+    answer(given);
+    byte(b',');
     window(windows[1]);
     numbers(out);
-    io::write_all(1, b"\n");
 }
 
-// The name, the answer, and the output.
-pub(crate) fn answered(name: &[u8], answer: Answer, out: &[u32]) {
-    io::write_all(1, name);
-    field(b": ", number(answer));
-    numbers(out);
-    io::write_all(1, b"\n");
-}
-
-// The name, the answer, and the player as it then is, with its first two windows.
-pub(crate) fn started(name: &[u8], played: Played) {
-    let answer = played.answer;
+// The answer, and the player as it then is, with its first two windows.
+pub(crate) fn started(played: Played) {
+    let given = played.answer;
     let p = played.player;
     let windows = p.windows;
-    label(name, answer);
-    field(b" windows ", p.count);
+    answer(given);
+    field(b", windows ", p.count);
     field(b", limit ", p.limit);
     field(b", current ", p.current.0);
     whole(b"; 0:", windows[0]);
     whole(b"; 1:", windows[1]);
-    io::write_all(1, b"\n");
 }

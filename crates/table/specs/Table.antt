@@ -6,7 +6,7 @@ use mathlib.Core.Bool.{true, false}
 use Rattle.window.specs.Record.{mayStamp}
 use Rattle.window.specs.Laws.{raceAt, ClosedAs}
 use Rattle.window.specs.Table.{posted, postedClosed, postedClosedPosted, row-h, row-j}
-use Rattle.rules.specs.View.{normal, fetching}
+use Rattle.rules.specs.View.{fetching}
 use Rattle.rules.specs.Rules.{windowAt, mainRule, joinRule, sendRule, batchAt}
 use Rattle.rules.specs.Table.{entriesFor0, countUp, oneWindow, queueing, outEight, away, row-b, row-c, row-d, row-e, row-f, row-g}
 use Rattle.journal_text.specs.Text.{header}

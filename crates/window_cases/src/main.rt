@@ -1,7 +1,6 @@
 // Cases of Take and May stamp, a line each: the edges of every range of document 01, "The window".
 use journal::Entry;
 use journal::Index;
-use window::Answer;
 use window::Race;
 use window::Record;
 use window::Taken;
@@ -11,14 +10,6 @@ const POST: u32 = 1;
 const ODDS: u32 = 2;
 
 const CLOSE: u32 = 3;
-
-fn number(a: Answer) -> u32 {
-    match a {
-        Answer::Done => 0,
-        Answer::OutOfShape => 1,
-        Answer::Full => 15,
-    }
-}
 
 // 0 for a race as in a new record, else 1.
 fn touched(x: Race) -> u32 {
@@ -70,7 +61,7 @@ fn show(name: &[u8], t: Taken, race: u32) -> Record {
     let races = record.races;
     let x = race_of(races, race);
     io::write_all(1, name);
-    field(b": answer ", number(answer));
+    field(b": answer ", answer.number());
     field(b", last ", last.0);
     field(b", count ", record.count);
     field(b", touched ", count_touched(races));

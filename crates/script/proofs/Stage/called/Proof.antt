@@ -3,11 +3,11 @@ use borrow.Author.Needs.{needs}
 use Rattle.script.proofs.Stage.called.Statement.{statement}
 use Rattle.script.proofs.Stage.called.Tie as tie
 
-number-of-requires : tie.Need-number-of-requires
-number-of-requires c κs = search needs
+number-requires : tie.Need-number-requires
+number-requires c κs = search needs
 
 returns : tie.Need-returns
-returns c = rw (c .number-of .ensures)
+returns c = rw (c .number .ensures)
 
 pub called-spec : {M : Type 1} → statement M
-called-spec = tie.close (tie.spec number-of-requires returns)
+called-spec = tie.close (tie.spec number-requires returns)

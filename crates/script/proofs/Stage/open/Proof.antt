@@ -12,7 +12,7 @@ around-requires : tie.Need-around-requires
 around-requires c κs = search needs
 
 returns : tie.Need-returns
-returns c = opens-over _ _ _ (c .before .if1 .taken)
+returns c = rw (c .around .ensures) (opens-over _ _ _ (c .before .before .blank .ensures) (c .before .if1 .taken))
 
 array-share-prefix-reports : tie.Need-array-share-prefix-reports
 array-share-prefix-reports c = search needs
@@ -23,14 +23,14 @@ slice-aggregate-start c = reports-count _ (c .before .if1 .left)
 start-requires : tie.Need-start-requires
 start-requires c κs = search needs
 
-number-of-requires : tie.Need-number-of-requires
-number-of-requires c κs = search needs
+number-requires : tie.Need-number-requires
+number-requires c κs = search needs
 
 around-requires-2 : tie.Need-around-requires-2
 around-requires-2 c κs = search needs
 
 returns-2 : tie.Need-returns-2
-returns-2 c = rw (c .around2 .ensures, c .before .number-of .ensures) (opens-start _ _ _ _ _ (c .before .before .before .before .before .if1 .left) refl (c .before .before .before .start .ensures))
+returns-2 c = rw (c .around2 .ensures, c .before .number .ensures) (opens-start _ _ _ (c .before .before .before .before .before .before .blank .ensures) _ _ (c .before .before .before .before .before .if1 .left) refl (c .before .before .before .start .ensures))
 
 pub open-spec : {M : Type 1} → statement M
 open-spec =
@@ -42,6 +42,6 @@ open-spec =
     array-share-prefix-reports
     slice-aggregate-start
     start-requires
-    number-of-requires
+    number-requires
     around-requires-2
     returns-2)

@@ -2,7 +2,7 @@
 use native.Mathlib.Omega.{arith}
 use borrow.Author.Tests.{lt-ltb, le-ltb}
 use Rattle.window.specs.Record.{newRecord}
-use Rattle.script.specs.Worlds.{getD-any}
+use Rattle.player.specs.Views.{getD-any}
 use Rattle.script.proofs.Sixteen.{records-length}
 use borrow.Author.Needs.{needs}
 use Rattle.script.proofs.Stage.record_at.Statement.{statement}

@@ -17,14 +17,14 @@ returns c =
     let long = tracks-length (start .args .self) _ (start .good .0) in
     c .called .ensures ∙ settledBy-out (start .args .self) (start .args .played) _ _ (omega (arith, c .before .if1 .taken))
 
-number-of-requires : tie.Need-number-of-requires
-number-of-requires c κs = search needs
+number-requires : tie.Need-number-requires
+number-requires c κs = search needs
 
 called-requires-2 : tie.Need-called-requires-2
 called-requires-2 c κs = search needs
 
 returns-2 : tie.Need-returns-2
-returns-2 c = rw (c .called2 .ensures, ne-eqb _ _ (λ e. c .before .if2 .taken (c .before .before .number-of .ensures ∙ e)))
+returns-2 c = rw (c .called2 .ensures, ne-eqb _ _ (λ e. c .before .if2 .taken (c .before .before .number .ensures ∙ e)))
 
 mul-track : tie.Need-mul-track
 mul-track c = search needs
@@ -36,7 +36,7 @@ called-requires-3 : tie.Need-called-requires-3
 called-requires-3 c κs = search needs
 
 returns-3 : tie.Need-returns-3
-returns-3 c = rw (c .called3 .ensures, eq-eqb _ _ (sym (c .before .before .number-of .ensures) ∙ c .before .if2 .left))
+returns-3 c = rw (c .called3 .ensures, eq-eqb _ _ (sym (c .before .before .number .ensures) ∙ c .before .if2 .left))
 
 pub settled-spec : {M : Type 1} → statement M
 settled-spec =
@@ -44,7 +44,7 @@ settled-spec =
     (tie.spec
     called-requires
     returns
-    number-of-requires
+    number-requires
     called-requires-2
     returns-2
     mul-track

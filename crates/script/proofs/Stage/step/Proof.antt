@@ -1,6 +1,6 @@
 -- Each arm of the match is the step of its kind, and out of shape or without room nothing changes.
 use mathlib.Core.Path.{_≡_, refl, sym, ap, subst, subst⁻¹, _∙_}
-use mathlib.Core.Bool.{true, false, true≢false}
+use mathlib.Core.Bool.{true, true≢false}
 use borrow.Author.Tests.{not-true, not-false}
 use Rattle.journal.specs.Cases.{and-left, and-right, and-intro}
 use Rattle.journal.specs.Entry.{inShape, entriesOf}

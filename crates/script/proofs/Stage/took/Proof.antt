@@ -15,11 +15,11 @@ mul-track c = search needs
 element-set-from-track : tie.Need-element-set-from-track
 element-set-from-track c = search needs
 
-number-taken-requires : tie.Need-number-taken-requires
-number-taken-requires c κs = search needs
+number-requires : tie.Need-number-requires
+number-requires c κs = search needs
 
 returns : tie.Need-returns
-returns c = rw (c .number-taken .ensures)
+returns c = rw (c .number .ensures)
 
 pub took-spec : {M : Type 1} → statement M
 took-spec =
@@ -29,5 +29,5 @@ took-spec =
     element-set-from-record
     mul-track
     element-set-from-track
-    number-taken-requires
+    number-requires
     returns)

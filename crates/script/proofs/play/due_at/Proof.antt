@@ -1,7 +1,7 @@
 -- Window w is there below the count, and no window above it.
 use mathlib.Core.Path.{sym, ap, _∙_}
 use native.Mathlib.Omega.{arith}
-use Rattle.player.specs.View.{viewOf}
+use Rattle.held.specs.View.{viewOf}
 use Rattle.script.specs.Stage.{dueIn}
 use Rattle.script.specs.Worlds.{windowAt-none, windowAt-here}
 use Rattle.script.proofs.Sixteen.{windows-length}

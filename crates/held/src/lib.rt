@@ -1,0 +1,113 @@
+// What the player holds for one window, its shape, and a fresh one; what an operation answers.
+mod shape;
+
+use journal::Index;
+use queue::Batches;
+use queue::Queue;
+use rules::Term;
+ghost use mathlib.Core.Path.{_≡_};
+ghost use Rattle.queue.specs.Items.{freshQueue, freshBatches};
+ghost use Rattle.held.specs.View.{viewOf};
+ghost use Rattle.held.specs.Promise.{numberOf};
+ghost use Rattle.rules.specs.Window.{started};
+
+// A window's condition. Only Fetching and Completed carry indices.
+pub enum Condition {
+    // Entries go from the normal queue.
+    Normal,
+    // The entries from next to end are still to be fetched into the catch-up queue.
+    Fetching { next: Index, end: Index },
+    // All up to end is fetched, and the catch-up queue is not yet sent.
+    Completed { end: Index },
+    // The line is dropped.
+    Suspended,
+}
+
+// What the player holds for a window beside its queues.
+pub struct Head {
+    pub term: Term,
+    pub acked: Index,
+    pub sent: Index,
+    pub busy: bool,
+    pub batches: Batches,
+    pub condition: Condition,
+}
+
+pub struct Window {
+    pub head: Head,
+    pub normal: Queue,
+    pub catch_up: Queue,
+}
+
+// What an operation answers. `numberOf` of the definitions gives document 01's number for each.
+pub enum Answer {
+    Done,
+    OutOfShape,
+    NoSuchWindow,
+    Suspended,
+    NothingToRead,
+    OtherTerm,
+    OtherIndex,
+    NothingReady,
+    LineState,
+    TooManyBatches,
+    CatchUpFull,
+    NoSuchBatch,
+    NotSuspended,
+    BadReport,
+    LastTerm,
+    OutputTooShort,
+}
+
+impl Answer {
+    // Document 01's number.
+    pub fn number(self) -> u32
+        ensures { λ r. ⌜ r ≡ numberOf self ⌝ }
+    {
+        match self {
+            Answer::Done => 0,
+            Answer::OutOfShape => 1,
+            Answer::NoSuchWindow => 2,
+            Answer::Suspended => 3,
+            Answer::NothingToRead => 4,
+            Answer::OtherTerm => 5,
+            Answer::OtherIndex => 6,
+            Answer::NothingReady => 7,
+            Answer::LineState => 8,
+            Answer::TooManyBatches => 9,
+            Answer::CatchUpFull => 10,
+            Answer::NoSuchBatch => 11,
+            Answer::NotSuspended => 12,
+            Answer::BadReport => 13,
+            Answer::LastTerm => 14,
+            Answer::OutputTooShort => 17,
+        }
+    }
+}
+
+// An answer beside the window as it then is.
+pub struct Turned {
+    pub answer: Answer,
+    pub window: Window,
+}
+
+impl Window {
+    // A fresh window: Normal, on its first term, the line free and nothing queued; acknowledged and sent are its report.
+    pub fn started(report: Index) -> Window
+        ensures { λ r. ⌜ (viewOf r ≡ started (report .0)) × (r .normal ≡ freshQueue) × (r .«catch_up» ≡ freshQueue) × (r .head .batches ≡ freshBatches) ⌝ }
+    {
+        let head = Head {
+            term: Term(1),
+            acked: report,
+            sent: report,
+            busy: false,
+            batches: Batches::new(),
+            condition: Condition::Normal,
+        };
+        Window {
+            head,
+            normal: Queue::new(),
+            catch_up: Queue::new(),
+        }
+    }
+}

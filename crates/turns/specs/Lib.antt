@@ -1,0 +1,2 @@
+-- The operations at one window: what they test before their rules.
+pub mod Guards
