@@ -15,7 +15,7 @@ use Rattle.rules.specs.Shape.{shape}
 use Rattle.rules.specs.Window.{mainAt}
 use Rattle.rules.specs.Rules.{mapWindows}
 use Rattle.held.specs.Promise.{numberOf}
-use Rattle.turns.specs.Guards.{mainGuard}
+use Rattle.reading.specs.Guards.{mainGuard}
 
 -- what every operation on window w asks first
 unfoldable pub reached : List ℕ → ℕ → PlayerView → Answer

@@ -6,7 +6,7 @@ use native.Mathlib.Omega.{arith}
 use mathlib.Core.Path.{_≡_, refl, sym, ap}
 use mathlib.Core.List.{List, [], _∷_, _++_}
 use mathlib.Core.Bool.{Bool, true, false, _&&_, and-assoc, and-eq-true-iff}
-use lib.ListN.{length, take, drop, getD, set, length-append, length-drop, List·getD-eq-default, drop-of-length-le}
+use lib.ListN.{length, take, drop, getD, set, List·getD-eq-default, drop-of-length-le}
 use lib.Seq.{drop-cons, drop-nil}
 use lib.Dec.{leb, eqb, leb·zero}
 use borrow.Author.Tests.{lt-ltb, le-ltb, le-leb, lt-leb, eqb-true, eqb-false}
@@ -92,9 +92,6 @@ pub pushed-full : (size x : ℕ) (q : List ℕ) → size ≤ length q → pushed
 unfolding pushed
 pushed-full size x q h = rw (le-ltb (length q) size h)
 
-pub pushed-length : (size x : ℕ) (q : List ℕ) → length q < size → length (pushed size x q) ≡ suc (length q)
-pushed-length size x q h = rw (pushed-room size x q h, length-append, add-one)
-
 -- the items that a store at the length makes, and those of a row with no room
 pub pushed-front-room : (size x n : ℕ) (cells : List ℕ) → length cells ≡ size → n < size → front (n + 1) (set cells n x) ≡ pushed size x (front n cells)
 pushed-front-room size x n cells e h =
@@ -113,9 +110,6 @@ skipped-fits size k q h = rw (le-leb (length q) size h)
 pub skipped-over : (size k : ℕ) (q : List ℕ) → size < length q → skipped size k q ≡ q
 unfolding skipped
 skipped-over size k q h = rw (lt-leb (length q) size h)
-
-pub skipped-length : (size k : ℕ) (q : List ℕ) → length q ≤ size → length (skipped size k q) ≡ length q - k
-skipped-length size k q h = rw (skipped-fits size k q h, length-drop)
 
 -- the items of a row that has more than it may
 pub skipped-front-over : (size k n : ℕ) (cells : List ℕ) → size < n → front n cells ≡ skipped size k (front n cells)

@@ -1,5 +1,0 @@
--- What the proofs share besides the laws of specs/.
-mod Caught
-mod Enqueued
-mod Kept
-mod Struck

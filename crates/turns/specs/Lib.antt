@@ -1,2 +1,0 @@
--- The operations at one window: what they test before their rules.
-pub mod Guards
