@@ -1,4 +1,3 @@
-pub mod Scanning
 pub mod Stepping
 pub mod Answering
 pub mod Putting

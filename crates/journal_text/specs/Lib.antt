@@ -2,7 +2,6 @@
 pub mod Text
 pub mod Over
 pub mod Scan
-pub mod FieldLaws
 pub mod LineLaws
 pub mod ScanLaws
 pub mod Answers
