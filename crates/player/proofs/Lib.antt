@@ -1,5 +1,4 @@
--- What the proofs share besides the laws of specs/.
-mod Operate
-mod Sent
-mod Sixteen
+-- What the proofs share besides the laws of specs/. `Refused` and `Sixteen` are for the crates above too.
+pub mod Refused
+pub mod Sixteen
 mod Started

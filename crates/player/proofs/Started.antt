@@ -17,7 +17,7 @@ use Rattle.rules.specs.Window.{started}
 use Rattle.rules.specs.Rules.{areReports, least, startRule}
 use Rattle.player.specs.Promise.{Keeps}
 use Rattle.player.specs.Starting.{startFits}
-use Rattle.player.proofs.Operate.{refuse-keeps}
+use Rattle.player.proofs.Refused.{refuse-keeps}
 
 module _ (ns : List ℕ) (count limit : ℕ) (reports : List ℕ) where
   -- 1 to 16 reports, as many as windows

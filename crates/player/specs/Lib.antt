@@ -2,6 +2,5 @@
 pub mod View
 pub mod Promise
 pub mod Views
-pub mod Stored
 pub mod Guards
 pub mod Starting

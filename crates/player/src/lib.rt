@@ -1,6 +1,6 @@
-// The player's state: the windows that it holds, up to sixteen, and the operations on the whole.
+// The player's state: the windows that it holds, up to sixteen, its shape, and Start.
+mod shape;
 mod start;
-mod whole;
 
 use held::Answer;
 use held::Window;

@@ -87,33 +87,39 @@ fn answer(played: Played, w: usize) {
 }
 
 pub(crate) fn main_stream(s: State, journal: &[u32], index: u32, w: usize) {
-    answer(s.player().main(journal, Index(index)), w);
+    answer(operations::main_on(s.player(), journal, Index(index)), w);
 }
 
 pub(crate) fn catch(s: State, journal: &[u32], w: u32, term: u32, index: u32) {
     answer(
-        s.player().catch(journal, w, Term(term), Index(index)),
+        operations::catch_on(s.player(), journal, w, Term(term), Index(index)),
         w as usize,
     );
 }
 
 pub(crate) fn written(s: State, journal: &[u32], w: u32, term: u32) {
-    answer(s.player().written(journal, w, Term(term)), w as usize);
+    answer(
+        operations::written_on(s.player(), journal, w, Term(term)),
+        w as usize,
+    );
 }
 
 pub(crate) fn ack(s: State, journal: &[u32], w: u32, term: u32, index: u32) {
     answer(
-        s.player().ack(journal, w, Term(term), Index(index)),
+        operations::ack_on(s.player(), journal, w, Term(term), Index(index)),
         w as usize,
     );
 }
 
 pub(crate) fn drop(s: State, journal: &[u32], w: u32, seen: usize) {
-    answer(s.player().drop(journal, w), seen);
+    answer(operations::drop_on(s.player(), journal, w), seen);
 }
 
 pub(crate) fn join(s: State, journal: &[u32], w: u32, report: u32) {
-    answer(s.player().join(journal, w, Index(report)), w as usize);
+    answer(
+        operations::join_on(s.player(), journal, w, Index(report)),
+        w as usize,
+    );
 }
 
 // The number of an answer.
@@ -133,7 +139,7 @@ fn in_shape(yes: bool) {
 fn next(p: Player, journal: &[u32]) {
     let current = p.current.0;
     if current < 4294967295 {
-        brief(p.main(journal, Index(current + 1)));
+        brief(operations::main_on(p, journal, Index(current + 1)));
     }
 }
 
@@ -143,11 +149,11 @@ pub(crate) fn shape(s: State, journal: &[u32]) {
     let p = s.player();
     in_shape(p.in_shape(journal));
     next(p, journal);
-    brief(p.catch(journal, 16, Term(9), Index(9)));
-    brief(p.written(journal, 16, Term(9)));
-    brief(p.ack(journal, 16, Term(9), Index(9)));
-    brief(p.drop(journal, 16));
-    brief(p.join(journal, 16, Index(9)));
+    brief(operations::catch_on(p, journal, 16, Term(9), Index(9)));
+    brief(operations::written_on(p, journal, 16, Term(9)));
+    brief(operations::ack_on(p, journal, 16, Term(9), Index(9)));
+    brief(operations::drop_on(p, journal, 16));
+    brief(operations::join_on(p, journal, 16, Index(9)));
 }
 
 // The same over the first `n` numbers of a journal.

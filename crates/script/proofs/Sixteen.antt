@@ -1,4 +1,4 @@
--- A stage that code holds has sixteen records and sixteen tracks, and its player sixteen windows, whatever its count says.
+-- A stage that code holds has sixteen records and sixteen tracks.
 use Prim.Native.Nat.{_≤_}
 use mathlib.Core.Path.{_≡_, sym, _∙_}
 use mathlib.Core.List.{List}
@@ -6,14 +6,9 @@ use lib.ListN.{length, length-map}
 use mir.Val.{Val}
 use denote.Laws.{Is}
 use denote.Struct.Declared.{row}
-use Rattle.player.specs.declared.Player.{Player}
-use Rattle.player.proofs.Player as player
 use Rattle.script.specs.declared.Stage.{Stage}
 use Rattle.script.specs.Worlds.{Staged}
 use Rattle.script.proofs.Stage as declared
-
-pub windows-length : (p : Player) (vs : List Val) → Is (row player.the-type) p vs → length (p .windows) ≡ 16
-windows-length p vs h = sym (length-map (p .windows) _) ∙ h .1 .1 .1 .1 .1 .0 .1 .0 .1
 
 pub records-length : (s : Stage) (vs : List Val) → Is (row declared.the-type) s vs → length (s .records) ≡ 16
 records-length s vs h = sym (length-map (s .records) _) ∙ h .1 .1 .1 .0 .1 .0 .1

@@ -224,7 +224,7 @@ impl Stage {
     {
         let player = self.player;
         let index = after(player.current);
-        self.called(player.main(journal, index))
+        self.called(operations::main_on(player, journal, index))
     }
 
     fn catch(self, journal: &[u32], w: u32) -> Stepped
@@ -234,7 +234,7 @@ impl Stage {
         let player = self.player;
         let term = term_at(player, w);
         let index = due_at(player, w);
-        self.called(player.catch(journal, w, term, index))
+        self.called(operations::catch_on(player, journal, w, term, index))
     }
 
     fn written(self, journal: &[u32], w: u32) -> Stepped
@@ -243,7 +243,7 @@ impl Stage {
     {
         let player = self.player;
         let term = term_at(player, w);
-        self.called(player.written(journal, w, term))
+        self.called(operations::written_on(player, journal, w, term))
     }
 
     fn drop(self, journal: &[u32], w: u32) -> Stepped
@@ -251,7 +251,7 @@ impl Stage {
         ensures { λ r. ⌜ Steps (entriesOf (now (journal .entry))) self (Drop w) r ⌝ }
     {
         let player = self.player;
-        self.called(player.drop(journal, w))
+        self.called(operations::drop_on(player, journal, w))
     }
 
     // Join with the window's last index; answered 0, both ways of its line are emptied.
@@ -262,7 +262,7 @@ impl Stage {
         let player = self.player;
         let record = self.record_at(w);
         let report = record.last;
-        let played = player.join(journal, w, report);
+        let played = operations::join_on(player, journal, w, report);
         let track = Track {
             line: Queue::new(),
             back: Queue::new(),
@@ -280,7 +280,7 @@ impl Stage {
         let line = track.line;
         let back = track.back;
         let mut out = [0; 10];
-        let played = player.send(journal, w, &mut out);
+        let played = operations::send_on(player, journal, w, &mut out);
         let next = Track {
             line: loaded(line, out[0], out[5]),
             back,
@@ -311,7 +311,7 @@ impl Stage {
         }
         let term = term_at(player, w);
         let index = Index(back.item(0));
-        let played = player.ack(journal, w, term, index);
+        let played = operations::ack_on(player, journal, w, term, index);
         let next = Track {
             line,
             back: back.skip(1),

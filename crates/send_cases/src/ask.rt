@@ -20,7 +20,7 @@ fn player(limit: u32, window: Window) -> Player {
 // Send to window w, lent the first of some numbers.
 fn lend(journal: &[u32], p: Player, w: u32, out: &mut [u32], size: usize) {
     if size <= out.len() {
-        let played = p.send(journal, w, &mut out[0..size]);
+        let played = operations::send_on(p, journal, w, &mut out[0..size]);
         show::sent(played, out);
     }
 }

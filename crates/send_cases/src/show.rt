@@ -4,7 +4,6 @@ use held::Condition;
 use held::Head;
 use held::Window;
 use player::Played;
-use player::Player;
 use queue::Batches;
 use queue::Queue;
 

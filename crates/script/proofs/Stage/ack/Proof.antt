@@ -30,8 +30,8 @@ term-at-requires c κs = search needs
 item-requires : tie.Need-item-requires
 item-requires c κs = search needs
 
-ack-requires : tie.Need-ack-requires
-ack-requires c κs = search needs
+ack-on-requires : tie.Need-ack-on-requires
+ack-on-requires c κs = search needs
 
 skip-requires : tie.Need-skip-requires
 skip-requires c κs = search needs
@@ -47,7 +47,7 @@ returns-3 c =
     (ack-steps _ _ (staged _ _ (start .good .0) (start .pre .few)) (start .pre .journal) _ (c .before .before .before .before .before .before .before .before .before .before .if1 .left) _ _ _ _ _
     (c .before .before .before .before .term-at .ensures)
     (front-some _ _ _ _ _ (same .back) (c .before .before .before .before .before .before .size .ensures) (c .before .before .before .before .before .if2 .left) (omega (arith, start .pre .back (c .before .before .before .before .before .before .before .before .before .before .if1 .left))) (c .before .before .before .item .ensures) (c .before .skip .ensures))
-    (c .before .before .ack .ensures) (same .line) refl)
+    (c .before .before .ack-on .ensures) (same .line) refl)
 
 pub ack-spec : {M : Type 1} → statement M
 ack-spec =
@@ -59,7 +59,7 @@ ack-spec =
     returns-2
     term-at-requires
     item-requires
-    ack-requires
+    ack-on-requires
     skip-requires
     settled-requires
     returns-3)

@@ -11,8 +11,8 @@ term-at-requires c κs = search needs
 due-at-requires : tie.Need-due-at-requires
 due-at-requires c κs = search needs
 
-catch-requires : tie.Need-catch-requires
-catch-requires c κs = search needs
+catch-on-requires : tie.Need-catch-on-requires
+catch-on-requires c κs = search needs
 
 called-requires : tie.Need-called-requires
 called-requires c κs = search needs
@@ -22,8 +22,8 @@ returns c =
     let start = c .before .before .before .before .before .before in
     rw (c .called .ensures)
     (catch-steps _ _ (staged _ _ (start .good .0) (start .pre .few)) (start .pre .journal) _ _ _ _ (c .before .before .before .term-at .ensures)
-    (c .before .before .due-at .ensures) (c .before .catch .ensures))
+    (c .before .before .due-at .ensures) (c .before .catch-on .ensures))
 
 pub catch-spec : {M : Type 1} → statement M
 catch-spec =
-    tie.close (tie.spec term-at-requires due-at-requires catch-requires called-requires returns)
+    tie.close (tie.spec term-at-requires due-at-requires catch-on-requires called-requires returns)

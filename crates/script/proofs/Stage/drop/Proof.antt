@@ -5,8 +5,8 @@ use borrow.Author.Needs.{needs}
 use Rattle.script.proofs.Stage.drop.Statement.{statement}
 use Rattle.script.proofs.Stage.drop.Tie as tie
 
-drop-requires : tie.Need-drop-requires
-drop-requires c κs = search needs
+drop-on-requires : tie.Need-drop-on-requires
+drop-on-requires c κs = search needs
 
 called-requires : tie.Need-called-requires
 called-requires c κs = search needs
@@ -14,7 +14,7 @@ called-requires c κs = search needs
 returns : tie.Need-returns
 returns c =
     let start = c .before .before .before .before in
-    rw (c .called .ensures) (drop-steps _ _ (staged _ _ (start .good .0) (start .pre .few)) (start .pre .journal) _ _ (c .before .drop .ensures))
+    rw (c .called .ensures) (drop-steps _ _ (staged _ _ (start .good .0) (start .pre .few)) (start .pre .journal) _ _ (c .before .drop-on .ensures))
 
 pub drop-spec : {M : Type 1} → statement M
-drop-spec = tie.close (tie.spec drop-requires called-requires returns)
+drop-spec = tie.close (tie.spec drop-on-requires called-requires returns)

@@ -11,8 +11,8 @@ use Rattle.script.proofs.Stage.join.Tie as tie
 record-at-requires : tie.Need-record-at-requires
 record-at-requires c κs = search needs
 
-join-requires : tie.Need-join-requires
-join-requires c κs = search needs
+join-on-requires : tie.Need-join-on-requires
+join-on-requires c κs = search needs
 
 new-requires : tie.Need-new-requires
 new-requires c κs = search needs
@@ -28,7 +28,7 @@ returns c =
     let start = c .before .before .before .before .before .before .before .before in
     rw (c .settled .ensures)
     (join-steps _ _ (staged _ _ (start .good .0) (start .pre .few)) (start .pre .journal) _ _ _
-    (rw (c .before .before .before .before .before .record-at .ensures) at (c .before .before .before .join .ensures))
+    (rw (c .before .before .before .before .before .record-at .ensures) at (c .before .before .before .join-on .ensures))
     (ap itemsOf (c .before .before .new .ensures) ∙ itemsOf-fresh) (ap itemsOf (c .before .new2 .ensures) ∙ itemsOf-fresh))
 
 pub join-spec : {M : Type 1} → statement M
@@ -36,7 +36,7 @@ join-spec =
     tie.close
     (tie.spec
     record-at-requires
-    join-requires
+    join-on-requires
     new-requires
     new-requires-2
     settled-requires

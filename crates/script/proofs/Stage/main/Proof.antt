@@ -8,8 +8,8 @@ use Rattle.script.proofs.Stage.main.Tie as tie
 after-requires : tie.Need-after-requires
 after-requires c κs = search needs
 
-main-requires : tie.Need-main-requires
-main-requires c κs = search needs
+main-on-requires : tie.Need-main-on-requires
+main-on-requires c κs = search needs
 
 called-requires : tie.Need-called-requires
 called-requires c κs = search needs
@@ -18,7 +18,7 @@ returns : tie.Need-returns
 returns c =
     let start = c .before .before .before .before .before in
     rw (c .called .ensures)
-    (main-steps _ _ (staged _ _ (start .good .0) (start .pre .few)) (start .pre .journal) _ _ (c .before .before .after .ensures) (c .before .main .ensures))
+    (main-steps _ _ (staged _ _ (start .good .0) (start .pre .few)) (start .pre .journal) _ _ (c .before .before .after .ensures) (c .before .main-on .ensures))
 
 pub main-spec : {M : Type 1} → statement M
-main-spec = tie.close (tie.spec after-requires main-requires called-requires returns)
+main-spec = tie.close (tie.spec after-requires main-on-requires called-requires returns)

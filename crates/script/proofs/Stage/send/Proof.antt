@@ -11,11 +11,11 @@ use Rattle.script.proofs.Stage.send.Tie as tie
 track-at-requires : tie.Need-track-at-requires
 track-at-requires c κs = search needs
 
-slice-aggregate-send : tie.Need-slice-aggregate-send
-slice-aggregate-send c = search needs
+slice-aggregate-send-on : tie.Need-slice-aggregate-send-on
+slice-aggregate-send-on c = search needs
 
-send-requires : tie.Need-send-requires
-send-requires c κs = search needs
+send-on-requires : tie.Need-send-on-requires
+send-on-requires c κs = search needs
 
 array-read-loaded : tie.Need-array-read-loaded
 array-read-loaded c = search needs
@@ -25,7 +25,7 @@ array-read-loaded-2 c = search needs
 
 loaded-requires : tie.Need-loaded-requires
 loaded-requires c κs =
-    let s = sendOutput-shows _ _ _ _ (c .before .send .ensures .1) in
+    let s = sendOutput-shows _ _ _ _ (c .before .send-on .ensures .1) in
     (s .first, s .second)
 
 settled-requires : tie.Need-settled-requires
@@ -35,7 +35,7 @@ returns : tie.Need-returns
 returns c =
     let start = c .before .before .before .before .before .before .before .before .before .before in
     let same = c .before .before .before .before .before .before .before .track-at .ensures in
-    let sent = c .before .before .before .send in
+    let sent = c .before .before .before .send-on in
     rw (c .settled .ensures)
     (send-steps _ _ (staged _ _ (start .good .0) (start .pre .few)) (start .pre .journal) _ _ _ _ _ (start .pre .line)
     (sent .ensures .0) (sendOutput-shows _ _ _ _ (sent .ensures .1))
@@ -46,8 +46,8 @@ send-spec =
     tie.close
     (tie.spec
     track-at-requires
-    slice-aggregate-send
-    send-requires
+    slice-aggregate-send-on
+    send-on-requires
     array-read-loaded
     array-read-loaded-2
     loaded-requires

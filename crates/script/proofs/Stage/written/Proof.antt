@@ -8,8 +8,8 @@ use Rattle.script.proofs.Stage.written.Tie as tie
 term-at-requires : tie.Need-term-at-requires
 term-at-requires c κs = search needs
 
-written-requires : tie.Need-written-requires
-written-requires c κs = search needs
+written-on-requires : tie.Need-written-on-requires
+written-on-requires c κs = search needs
 
 called-requires : tie.Need-called-requires
 called-requires c κs = search needs
@@ -18,7 +18,7 @@ returns : tie.Need-returns
 returns c =
     let start = c .before .before .before .before .before in
     rw (c .called .ensures)
-    (written-steps _ _ (staged _ _ (start .good .0) (start .pre .few)) (start .pre .journal) _ _ _ (c .before .before .term-at .ensures) (c .before .written .ensures))
+    (written-steps _ _ (staged _ _ (start .good .0) (start .pre .few)) (start .pre .journal) _ _ _ (c .before .before .term-at .ensures) (c .before .written-on .ensures))
 
 pub written-spec : {M : Type 1} → statement M
-written-spec = tie.close (tie.spec term-at-requires written-requires called-requires returns)
+written-spec = tie.close (tie.spec term-at-requires written-on-requires called-requires returns)

@@ -4,7 +4,7 @@ use native.Mathlib.Omega.{arith}
 use Rattle.held.specs.View.{viewOf}
 use Rattle.script.specs.Stage.{dueIn}
 use Rattle.script.specs.Worlds.{windowAt-none, windowAt-here}
-use Rattle.script.proofs.Sixteen.{windows-length}
+use Rattle.player.proofs.Sixteen.{windows-length}
 use borrow.Author.Needs.{needs}
 use Rattle.script.proofs.play.due_at.Statement.{statement}
 use Rattle.script.proofs.play.due_at.Tie as tie

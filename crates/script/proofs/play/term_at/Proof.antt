@@ -3,7 +3,7 @@ use mathlib.Core.Path.{sym, ap}
 use native.Mathlib.Omega.{arith}
 use Rattle.held.specs.View.{viewOf}
 use Rattle.script.specs.Worlds.{windowAt-none, windowAt-here}
-use Rattle.script.proofs.Sixteen.{windows-length}
+use Rattle.player.proofs.Sixteen.{windows-length}
 use borrow.Author.Needs.{needs}
 use Rattle.script.proofs.play.term_at.Statement.{statement}
 use Rattle.script.proofs.play.term_at.Tie as tie

@@ -1,0 +1,3 @@
+-- What the proofs share besides the laws of specs/.
+mod Operate
+mod Sent
