@@ -1,7 +1,19 @@
-// Runs the vectors of journal text, and the cases at the limits of length, room and shape, and prints what each answers.
-mod edges;
+// Journal text: the vectors 01.in to 40.in, and the limits of length, room and shape. Standard input has a line for each case: letters
+// with the numbers after them, which do something to a text and to the numbers of a journal, or show something of them; and labels
+// between quotes, which are shown. A blank or a line end follows each number.
+//
+// | letter | what it does | letter | what it shows |
+// |---|---|---|---|
+// | `v` | the vector of a name becomes the text | `r` | what reading the text into the first so many numbers answers |
+// | `<` | adds the bytes up to `>` to the text | `e` | the first so many numbers, four to a line |
+// | `z` | gives the text a size | `w` | what writing the first so many numbers over so many bytes of the text answers |
+// | `j` | stores at a place a number | `k` | whether writing the first so many numbers elsewhere gives the text |
+// | `f` | fills the journal with notes to window 0 | | |
+mod calls;
+mod input;
+mod numbers;
 mod show;
-mod vectors;
+mod text;
 
 ghost use mathlib.Core.Path.{_≡_};
 ghost use lib.ListN.{length};
@@ -20,12 +32,21 @@ fn entry_room() -> [u32; 262144]
     [0; 262144]
 }
 
+// Plays the letters of the input, of which there are at most 10,000.
+fn play(text: &mut [u8], journal: &mut [u32]) {
+    let mut size = 0;
+    let mut left: usize = 10000;
+    while left > 0 {
+        let letter = input::next();
+        size = text::letter(letter, size, text);
+        numbers::letter(letter, journal);
+        calls::letter(letter, text, size, journal);
+        left -= 1;
+    }
+}
+
 fn main() {
     let mut text = text_room();
-    let mut numbers = entry_room();
-    let mut back = text_room();
-    vectors::all(&mut text, &mut numbers, &mut back);
-    edges::reading(&mut numbers);
-    edges::writing(&mut back);
-    edges::longest(&mut text, &mut numbers, &mut back);
+    let mut journal = entry_room();
+    play(&mut text, &mut journal);
 }

@@ -3,26 +3,29 @@ use Prim.Native.Nat.{_-_}
 use mathlib.Core.Path.{_≡_}
 use lib.ListN.{length}
 use borrow.Author.Needs.{needs}
-use Rattle.journal_text_cases.proofs.edges.notes.Statement.{statement}
-use Rattle.journal_text_cases.proofs.edges.notes.Tie as tie
+use Rattle.journal_text_cases.proofs.numbers.fill.Statement.{statement}
+use Rattle.journal_text_cases.proofs.numbers.fill.Tie as tie
 
 abbrev Inv-loop : tie.InvT-loop
-Inv-loop numbers₀ i₀ numbers i = length numbers ≡ length numbers₀
+Inv-loop journal₀ note i₀ journal i = length journal ≡ length journal₀
 
 abbrev μ-loop : tie.MeasureT-loop
-μ-loop numbers₀ i₀ numbers i = length numbers₀ - i
+μ-loop journal₀ note i₀ journal i = length journal₀ - i
 
 loop-holds : tie.Need-loop-holds Inv-loop μ-loop
 loop-holds c = search needs
 
-of-note-requires : tie.Need-of-note-requires Inv-loop μ-loop
-of-note-requires c κs = search needs
+mul-journal : tie.Need-mul-journal Inv-loop μ-loop
+mul-journal c = search needs
 
-mul-numbers : tie.Need-mul-numbers Inv-loop μ-loop
-mul-numbers c = search needs
+array-read-journal : tie.Need-array-read-journal Inv-loop μ-loop
+array-read-journal c = search needs
 
-slice-write-numbers : tie.Need-slice-write-numbers Inv-loop μ-loop
-slice-write-numbers c = search needs
+mul-journal-2 : tie.Need-mul-journal-2 Inv-loop μ-loop
+mul-journal-2 c = search needs
+
+slice-write-journal : tie.Need-slice-write-journal Inv-loop μ-loop
+slice-write-journal c = search needs
 
 add-i : tie.Need-add-i Inv-loop μ-loop
 add-i c = search needs
@@ -39,16 +42,17 @@ same-length c = search needs
 returns : tie.Need-returns Inv-loop μ-loop
 returns c = search needs
 
-pub notes-spec : {M : Type 1} → statement M
-notes-spec =
+pub fill-spec : {M : Type 1} → statement M
+fill-spec =
     tie.close
     (tie.spec
     Inv-loop
     μ-loop
     loop-holds
-    of-note-requires
-    mul-numbers
-    slice-write-numbers
+    mul-journal
+    array-read-journal
+    mul-journal-2
+    slice-write-journal
     add-i
     loop-less
     loop-again

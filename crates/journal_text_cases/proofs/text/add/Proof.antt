@@ -1,19 +1,22 @@
--- The loop's invariant: the text keeps its length. The measure is what is left of the line.
+-- The loop's invariant: the text keeps its length. The measure is the room left.
 use Prim.Native.Nat.{_-_}
 use mathlib.Core.Path.{_≡_}
 use lib.ListN.{length}
 use borrow.Author.Needs.{needs}
-use Rattle.journal_text_cases.proofs.edges.add.Statement.{statement}
-use Rattle.journal_text_cases.proofs.edges.add.Tie as tie
+use Rattle.journal_text_cases.proofs.text.add.Statement.{statement}
+use Rattle.journal_text_cases.proofs.text.add.Tie as tie
 
 abbrev Inv-loop : tie.InvT-loop
-Inv-loop text₀ at line i₀ p₀ text i p = length text ≡ length text₀
+Inv-loop text₀ size at₀ text at = length text ≡ length text₀
 
 abbrev μ-loop : tie.MeasureT-loop
-μ-loop text₀ at line i₀ p₀ text i p = length line - i
+μ-loop text₀ size at₀ text at = length text₀ - at
 
 loop-holds : tie.Need-loop-holds Inv-loop μ-loop
 loop-holds c = search needs
+
+next-requires : tie.Need-next-requires Inv-loop μ-loop
+next-requires c κs = search needs
 
 same-length : tie.Need-same-length Inv-loop μ-loop
 same-length c = search needs
@@ -21,17 +24,11 @@ same-length c = search needs
 returns : tie.Need-returns Inv-loop μ-loop
 returns c = search needs
 
-shared-slice-read-text : tie.Need-shared-slice-read-text Inv-loop μ-loop
-shared-slice-read-text c = search needs
-
 slice-write-text : tie.Need-slice-write-text Inv-loop μ-loop
 slice-write-text c = search needs
 
-add-i : tie.Need-add-i Inv-loop μ-loop
-add-i c = search needs
-
-add-p : tie.Need-add-p Inv-loop μ-loop
-add-p c = search needs
+add-at : tie.Need-add-at Inv-loop μ-loop
+add-at c = search needs
 
 loop-less : tie.Need-loop-less Inv-loop μ-loop
 loop-less c = search needs
@@ -52,12 +49,11 @@ add-spec =
     Inv-loop
     μ-loop
     loop-holds
+    next-requires
     same-length
     returns
-    shared-slice-read-text
     slice-write-text
-    add-i
-    add-p
+    add-at
     loop-less
     loop-again
     same-length-2
