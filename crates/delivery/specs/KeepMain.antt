@@ -14,7 +14,7 @@ use Rattle.journal.specs.Cases.{true-or-false, le-or-lt}
 use Rattle.journal.specs.Due.{due, due-empty, due-more}
 use Rattle.rules.specs.View.{State, normal, fetching, completed, suspended, WindowView}
 use Rattle.rules.specs.Window.{isSuspended, requeue, wanted, mainAt}
-use Rattle.rules.specs.Offers.{mainAt-other, mainAt-suspended, mainAt-room, mainAt-normal, mainAt-fetching, mainAt-completed}
+use Rattle.rules.specs.Offers.{requeue-same, mainAt-other, mainAt-suspended, mainAt-room, mainAt-normal, mainAt-fetching, mainAt-completed}
 use Rattle.delivery.specs.World.{Place, withView}
 use Rattle.delivery.specs.Invariant.{Inv, Queues, FetchingQueues, CompletedQueues}
 
@@ -83,10 +83,6 @@ module _ (j : List Entry) (c w : ℕ) (p : Place) (inv : Inv j c w p) where
   acked-sent : p .view .acked ≤ p .view .sent
   acked-sent = omega (arith, inv .ackedLast, inv .lastSent)
 
-  -- the window with its condition named
-  same : (s : State) → p .view .state ≡ s → p .view ≡ requeue (p .view .normalQueue) (p .view .catchQueue) s (p .view)
-  same s e = ap (λ s. requeue (p .view .normalQueue) (p .view .catchQueue) s (p .view)) e
-
   -- with room, the index joins the normal queue; not being the window's, it does not. Either way the queue goes on from where it began
   joins : (s : State) (base : ℕ) → p .view .state ≡ s → isSuspended s ≡ false → base ≤ c → p .view .acked ≤ c → p .view .sent ≤ c →
       p .view .normalQueue ≡ due j w base c →
@@ -104,7 +100,7 @@ module _ (j : List Entry) (c w : ℕ) (p : Place) (inv : Inv j c w p) where
       (le-or-lt 128 (length (p .view .normalQueue))))
       (λ (other : isFor j w (suc c) ≡ false).
       by-law (p .view .normalQueue) (p .view .catchQueue) s (ap isSuspended e ∙ here) (inl (omega arith))
-      (mainAt-other j w (suc c) (p .view) (wanted-own j w c (p .view) false acked other) ∙ same s e)
+      (mainAt-other j w (suc c) (p .view) (wanted-own j w c (p .view) false acked other) ∙ requeue-same (p .view) s e)
       (queues (p .view .normalQueue) (is ∙ sym (due-other j w base c other))))
       (true-or-false (isFor j w (suc c)))
 
@@ -128,7 +124,7 @@ module _ (j : List Entry) (c w : ℕ) (p : Place) (inv : Inv j c w p) where
       let out : p .view .acked ≡ p .view .sent
       = ⊎-elim (λ (l : p .view .sent ≤ c). absurd (omega arith)) (λ (l : p .view .acked ≡ p .view .sent). l) (inv .notAhead (ap isSuspended e)) in
       by-law (p .view .normalQueue) (p .view .catchQueue) normal (ap isSuspended e) (inr out)
-      (mainAt-other j w (suc c) (p .view) (simp (le-ltb (p .view .acked) (suc c) (omega arith), and-false)) ∙ same normal e)
+      (mainAt-other j w (suc c) (p .view) (simp (le-ltb (p .view .acked) (suc c) (omega arith), and-false)) ∙ requeue-same (p .view) normal e)
       (q ∙ due-empty j w (p .view .sent) c (omega arith) ∙ sym (due-empty j w (p .view .sent) (suc c) (omega arith))))
       (le-or-lt (p .view .sent) c)
 

@@ -1,5 +1,5 @@
 -- Send keeps the invariant of its window: what leaves the queues in front is on the line behind, and sent is where the cut is.
-use Prim.Native.Nat.{ℕ, zero, suc, _-_, _≤_, _<_}
+use Prim.Native.Nat.{ℕ, _-_, _≤_, _<_}
 use mathlib.Core.Path.{_≡_, refl, sym, ap, ap₂, subst, subst⁻¹, _∙_}
 use mathlib.Core.Logic.{inl, ⊎-elim}
 use mathlib.Core.List.{List, [], _∷_, _++_, map, map-append, append-assoc}
@@ -14,7 +14,7 @@ use Rattle.journal.specs.Due.{due, lastOr, due-empty, due-split, Cut, due-cut}
 use Rattle.rules.specs.View.{State, normal, fetching, completed, suspended, WindowView}
 use Rattle.rules.specs.Shape.{isEmpty}
 use Rattle.rules.specs.Window.{isSuspended, requeue, Batch, batchOf, launched}
-use Rattle.rules.specs.Offers.{batchOf-normal, batchOf-fetching, batchOf-more, batchOf-all, launched-is, SentOut}
+use Rattle.rules.specs.Offers.{requeue-same, isEmpty-drop, batchOf-normal, batchOf-fetching, batchOf-more, batchOf-all, launched-is, SentOut}
 use Rattle.delivery.specs.World.{Place, withView, withLines, onLine}
 use Rattle.delivery.specs.Invariant.{Inv, Queues, FetchingQueues, CompletedQueues, lastOf, backIndices, endsOf}
 use Rattle.delivery.specs.Lines.{lastOr-some, lineTerms-append, endsOf-append, onLine-entries, onLine-terms, onLine-ends}
@@ -36,11 +36,6 @@ due-above j w a b e =
 isEmpty-append : (xs ys : List ℕ) → isEmpty xs ≡ false → isEmpty (xs ++ ys) ≡ false
 isEmpty-append [] ys e = absurd (true≢false e)
 isEmpty-append (x ∷ xs) ys e = refl
-
-isEmpty-drop : (k : ℕ) (q : List ℕ) → k < length q → isEmpty (drop k q) ≡ false
-isEmpty-drop k [] h = absurd (omega arith)
-isEmpty-drop zero (x ∷ q) h = refl
-isEmpty-drop (suc k) (x ∷ q) h = isEmpty-drop k q (omega arith)
 
 isEmpty-length : (q : List ℕ) → isEmpty q ≡ false → 1 ≤ length q
 isEmpty-length [] e = absurd (true≢false e)
@@ -90,15 +85,11 @@ module _ (j : List Entry) (c w : ℕ) (p : Place) (inv : Inv j c w p) (here : is
             });
       }
 
-  -- the window with its condition named
-  same : (s : State) → p .view .state ≡ s → p .view ≡ requeue (p .view .normalQueue) (p .view .catchQueue) s (p .view)
-  same s e = ap (λ s. requeue (p .view .normalQueue) (p .view .catchQueue) s (p .view)) e
-
   by-law : (limit : ℕ) (s : State) (b : Batch) → p .view .state ≡ s →
       batchOf limit (requeue (p .view .normalQueue) (p .view .catchQueue) s (p .view)) ≡ b → isEmpty (batchOf limit (p .view) .indices) ≡ false →
       (isEmpty (b .indices) ≡ false → Launched j c w b p) → Launched j c w (batchOf limit (p .view)) p
   by-law limit s b e law some keep =
-      let same-batch : batchOf limit (p .view) ≡ b = ap (batchOf limit) (same s e) ∙ law in
+      let same-batch : batchOf limit (p .view) ≡ b = ap (batchOf limit) (requeue-same (p .view) s e) ∙ law in
       subst⁻¹ (λ x. Launched j c w x p) same-batch (keep (sym (ap (λ x. isEmpty (x .indices)) same-batch) ∙ some))
 
   keep-in : (limit : ℕ) (s : State) → p .view .state ≡ s → isEmpty (batchOf limit (p .view) .indices) ≡ false →

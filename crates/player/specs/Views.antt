@@ -74,11 +74,6 @@ allWindows-drop p n w ws d b l h e = rw (firstWindows-drop n ws w d l h, e)
 -- ------------------------------------------------------------------------
 -- mapWindows
 
-pub mapWindows-length : (f : ℕ → WindowView → WindowView) (w : ℕ) (vs : List WindowView) → length (mapWindows f w vs) ≡ length vs
-unfolding mapWindows
-mapWindows-length f w [] = refl
-mapWindows-length f w (v ∷ vs) = ap suc (mapWindows-length f (suc w) vs)
-
 -- two rules that agree at every window that passes a test
 pub mapWindows-same : (p : WindowView → Bool) (f g : ℕ → WindowView → WindowView) → ((w : ℕ) (v : WindowView) → p v ≡ true → f w v ≡ g w v) →
     (w : ℕ) (vs : List WindowView) → allWindows p vs ≡ true → mapWindows f w vs ≡ mapWindows g w vs

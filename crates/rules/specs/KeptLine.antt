@@ -1,12 +1,12 @@
 -- A window in shape stays in shape under Send, Written, Ack, Drop and Join, and in a longer journal; a started window is in shape.
-use Prim.Native.Nat.{ℕ, zero, suc, _+_, _-_, _≤_, _<_}
+use Prim.Native.Nat.{ℕ, suc, _+_, _-_, _≤_, _<_}
 use mathlib.Core.Path.{_≡_, refl}
 use mathlib.Core.Logic.{⊎-elim}
 use mathlib.Core.List.{List, [], _∷_, _++_}
 use mathlib.Core.Bool.{Bool, true, false, not, cond, _||_, true≢false, false≢true}
 use native.Mathlib.Omega.{arith}
 use borrow.Author.Tests.{leb-true, ltb-true, eqb-true, le-leb}
-use lib.ListN.{length, take, drop, length-append}
+use lib.ListN.{length, take, length-append}
 use lib.Dec.{leb, ltb, eqb}
 use Rattle.journal.specs.Cases.{le-or-lt, and-left, and-right, and-intro}
 use Rattle.journal.specs.Due.{elem, lastOr}
@@ -15,18 +15,12 @@ use Rattle.queue.specs.Laws.{all-append, all-weaken, all-take}
 use Rattle.rules.specs.View.{State, normal, fetching, completed, suspended, WindowView}
 use Rattle.rules.specs.Shape.{isEmpty, stateHeld, suspendedFits}
 use Rattle.rules.specs.Window.{isSuspended, requeue, Batch, batchOf, launched, freed, struck, acknowledged, dropped, joined, started}
-use Rattle.rules.specs.Batches.{batchOf-normal, batchOf-fetching, batchOf-more, batchOf-all}
+use Rattle.rules.specs.Batches.{isEmpty-drop, batchOf-normal, batchOf-fetching, batchOf-more, batchOf-all}
 use Rattle.rules.specs.Shaped.{WindowShaped}
 use Rattle.rules.specs.KeptWindow.{Queued, queued-none, queued-drop, normalQueued, catchQueued, StateShaped, stateShaped, normal-shaped, fetching-shaped, completed-shaped, fetching-bounds, completed-bound, lined, here-shaped}
 
 -- ------------------------------------------------------------------------
 -- Send
-
-isEmpty-drop : (k : ℕ) (q : List ℕ) → k < length q → isEmpty (drop k q) ≡ false
-isEmpty-drop zero [] h = absurd (omega arith)
-isEmpty-drop zero (x ∷ q) h = refl
-isEmpty-drop (suc k) [] h = absurd (omega arith)
-isEmpty-drop (suc k) (x ∷ q) h = isEmpty-drop k q (omega arith)
 
 isEmpty-some : (q : List ℕ) → not (isEmpty q) ≡ true → 1 ≤ length q
 isEmpty-some [] h = absurd (false≢true h)

@@ -1,5 +1,5 @@
 -- The laws of Start: when it is answered 0, what it then makes, and that a refusal changes nothing.
-use Prim.Native.Nat.{ℕ, zero, suc, _+_, _≤_, _<_}
+use Prim.Native.Nat.{ℕ, zero, suc, _≤_, _<_}
 use mathlib.Core.Path.{_≡_, refl}
 use mathlib.Core.List.{List, [], _∷_, map}
 use mathlib.Core.Bool.{Bool, true, false, not, cond, _&&_}
@@ -40,16 +40,6 @@ unfolding areReports
 areReports-le j w [] e i h = absurd (omega arith)
 areReports-le j w (r ∷ rs) e zero h = leb-true _ _ (and-left (leb r (length j)) _ (and-left (leb r (length j) && isReport j w r) _ e))
 areReports-le j w (r ∷ rs) e (suc i) h = areReports-le j (suc w) rs (and-right (leb r (length j) && isReport j w r) _ e) i (omega arith)
-
-pub areReports-at : (j : List Entry) (w : ℕ) (rs : List ℕ) → areReports j w rs ≡ true → (i : ℕ) → i < length rs → isReport j (w + i) (getD rs i 0) ≡ true
-unfolding areReports
-areReports-at j w [] e i h = absurd (omega arith)
-areReports-at j w (r ∷ rs) e zero h =
-    let n : w + 0 ≡ w = omega arith in
-    rw n (and-right (leb r (length j)) _ (and-left (leb r (length j) && isReport j w r) _ e))
-areReports-at j w (r ∷ rs) e (suc i) h =
-    let n : w + suc i ≡ suc w + i = omega arith in
-    rw n (areReports-at j (suc w) rs (and-right (leb r (length j) && isReport j w r) _ e) i (omega arith))
 
 -- ------------------------------------------------------------------------
 -- Start

@@ -22,7 +22,7 @@ use Rattle.rules.specs.Shape.{isEmpty}
 use Rattle.rules.specs.Shaped.{shaped}
 use Rattle.player.specs.Guards.{inShape-entries}
 use Rattle.rules.specs.Window.{requeue, Ready, none, front, readyIn, Batch, addFront, batchOf, launched}
-use Rattle.rules.specs.Batches.{batchOf-normal, batchOf-fetching, batchOf-more, batchOf-all, batchOf-suspended}
+use Rattle.rules.specs.Batches.{batchOf-normal, batchOf-fetching, batchOf-more, batchOf-all, batchOf-drained, batchOf-suspended}
 use Rattle.rules.specs.Rules.{windowAt, sendRule, batchNumbers, batchAt, sendOutput}
 use Rattle.rules.specs.Laws.{sendRule-done}
 use Rattle.player.specs.Promise.{Keeps}
@@ -51,12 +51,6 @@ batchOf-length (suc k) v = by (readyIn (v .state) v) (batchOf-length k)
         length ((elim r as (λ _. Batch) [ none ↦ record { indices = []; rest = v } | front x v′ ↦ addFront x (batchOf k v′) ]) .indices) ≤ suc k
     by none few = omega arith
     by (front x v′) few = omega (arith, few v′)
-
--- in Completed with nothing to send, no batch
-batchOf-drained : (v : WindowView) (k e : ℕ) (n : List ℕ) → batchOf k (requeue n [] (completed e) v) .indices ≡ []
-unfolding batchOf readyIn
-batchOf-drained v zero e n = refl
-batchOf-drained v (suc k) e n = refl
 
 -- a batch has what the queues have
 batchOf-every : (p : ℕ → Bool) (k : ℕ) (v : WindowView) → all p (v .normalQueue) ≡ true → all p (v .catchQueue) ≡ true → all p (batchOf k v .indices) ≡ true

@@ -3,7 +3,7 @@ use Prim.{Unit, tt}
 use Prim.Native.Nat.{ℕ, _+_, _≤_, _<_}
 use mathlib.Core.Path.{_≡_, refl, sym, ap, ap₂, _∙_}
 use mathlib.Core.List.{List, [], _∷_, _++_, append-nil}
-use mathlib.Core.Bool.{Bool, true, false, _&&_, cond, false≢true}
+use mathlib.Core.Bool.{Bool, true, false, _&&_, cond, and-eq-true-iff, false≢true}
 use borrow.Author.Tests.{eq-eqb, eqb-true, le-leb, leb-true}
 use native.Mathlib.Omega.{arith}
 use lib.ListN.{length, take, drop, length-append, length-take, take-append-drop}
@@ -28,20 +28,13 @@ unfolding same
 same-itself [] = refl
 same-itself (x ∷ xs) = ap₂ (λ a b. a && b) (eq-eqb x x refl) (same-itself xs)
 
-and-first : (a b : Bool) → (a && b) ≡ true → a ≡ true
-and-first true b e = refl
-and-first false b e = e
-
-and-second : (a b : Bool) → (a && b) ≡ true → b ≡ true
-and-second true b e = e
-and-second false b e = absurd (false≢true e)
-
 pub same-equal : (xs ys : List ℕ) → same xs ys ≡ true → xs ≡ ys
 unfolding same
 same-equal [] [] e = refl
 same-equal [] (y ∷ ys) e = absurd (false≢true e)
 same-equal (x ∷ xs) [] e = absurd (false≢true e)
-same-equal (x ∷ xs) (y ∷ ys) e = ap₂ (λ a b. a ∷ b) (eqb-true x y (and-first _ _ e)) (same-equal xs ys (and-second (eqb x y) _ e))
+same-equal (x ∷ xs) (y ∷ ys) e =
+    let both = and-eq-true-iff (eqb x y) (same xs ys) .0 e in ap₂ (λ a b. a ∷ b) (eqb-true x y (both .0)) (same-equal xs ys (both .1))
 
 pub same-other : (xs ys : List ℕ) → (xs ≡ ys → ⊥) → same xs ys ≡ false
 same-other xs ys differ = by (same xs ys) refl
