@@ -1,2 +1,3 @@
-pub mod Reading
-pub mod Writing
+-- What the proofs share besides the laws of specs/.
+mod Reading
+mod Writing

@@ -14,7 +14,7 @@ use Rattle.journal.specs.Due.{due, lastOr, due-empty, due-split, Cut, due-cut}
 use Rattle.rules.specs.View.{State, normal, fetching, completed, suspended, WindowView}
 use Rattle.rules.specs.Shape.{isEmpty}
 use Rattle.rules.specs.Window.{isSuspended, requeue, Batch, batchOf, launched}
-use Rattle.rules.specs.Offers.{requeue-same, isEmpty-drop, batchOf-normal, batchOf-fetching, batchOf-more, batchOf-all, launched-is, SentOut}
+use Rattle.rules.specs.Offers.{requeue-same, isEmpty-some, isEmpty-drop, batchOf-normal, batchOf-fetching, batchOf-more, batchOf-all, launched-is, SentOut}
 use Rattle.delivery.specs.World.{Place, withView, withLines, onLine}
 use Rattle.delivery.specs.Invariant.{Inv, Queues, FetchingQueues, CompletedQueues, lastOf, backIndices, endsOf}
 use Rattle.delivery.specs.Lines.{lastOr-some, lineTerms-append, endsOf-append, onLine-entries, onLine-terms, onLine-ends}
@@ -36,10 +36,6 @@ due-above j w a b e =
 isEmpty-append : (xs ys : List ℕ) → isEmpty xs ≡ false → isEmpty (xs ++ ys) ≡ false
 isEmpty-append [] ys e = absurd (true≢false e)
 isEmpty-append (x ∷ xs) ys e = refl
-
-isEmpty-length : (q : List ℕ) → isEmpty q ≡ false → 1 ≤ length q
-isEmpty-length [] e = absurd (true≢false e)
-isEmpty-length (x ∷ q) e = omega arith
 
 module _ (j : List Entry) (c w : ℕ) (p : Place) (inv : Inv j c w p) (here : isSuspended (p .view .state) ≡ false) (read : c ≤ length j) where
   -- a batch that is the first part of what is due up to b, with queues that hold what is due after it
@@ -123,7 +119,7 @@ module _ (j : List Entry) (c w : ℕ) (p : Place) (inv : Inv j c w p) (here : is
       let q : List ℕ = p .view .catchQueue in
       ⊎-elim
       (λ (all : length q ≤ limit).
-      by-law limit (completed end) _ e (batchOf-all (p .view) limit end (p .view .normalQueue) (p .view .catchQueue) (isEmpty-length q (is .some)) all) some
+      by-law limit (completed end) _ e (batchOf-all (p .view) limit end (p .view .normalQueue) (p .view .catchQueue) (isEmpty-some q (is .some)) all) some
       (λ some′.
       let m : ℕ = limit - length q in
       let split : due j w (p .view .sent) c ≡ (q ++ take m n) ++ drop m n

@@ -1,3 +1,4 @@
-pub mod Stepping
-pub mod Answering
-pub mod Putting
+-- What the proofs share besides the laws of specs/.
+mod Stepping
+mod Answering
+mod Putting

@@ -9,7 +9,7 @@ use Rattle.rules.specs.View.{State, normal, fetching, completed, suspended, Win
 use Rattle.rules.specs.Shape.{windowShape}
 use Rattle.rules.specs.Shaped.{windowShaped}
 use Rattle.reading.specs.Guards.{endBelow, mainGuard}
-use Rattle.player.specs.Guards.{lengths-shape}
+use Rattle.player.specs.InShape.{lengths-shape}
 
 -- an end of at most `current` is below the next index
 endBelow-next : (l current : ℕ) (v : WindowView) → windowShape l current v ≡ true → (s : State) → v .state ≡ s → endBelow (current + 1) s ≡ true

@@ -2,5 +2,5 @@
 pub mod View
 pub mod Promise
 pub mod Views
-pub mod Guards
+pub mod InShape
 pub mod Starting

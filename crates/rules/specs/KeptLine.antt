@@ -5,7 +5,7 @@ use mathlib.Core.Logic.{⊎-elim}
 use mathlib.Core.List.{List, [], _∷_, _++_}
 use mathlib.Core.Bool.{Bool, true, false, not, cond, _||_, true≢false, false≢true}
 use native.Mathlib.Omega.{arith}
-use borrow.Author.Tests.{leb-true, ltb-true, eqb-true, le-leb}
+use borrow.Author.Tests.{leb-true, ltb-true, eqb-true, le-leb, not-true}
 use lib.ListN.{length, take, length-append}
 use lib.Dec.{leb, ltb, eqb}
 use Rattle.journal.specs.Cases.{le-or-lt, and-left, and-right, and-intro}
@@ -15,16 +15,12 @@ use Rattle.queue.specs.Laws.{all-append, all-weaken, all-take}
 use Rattle.rules.specs.View.{State, normal, fetching, completed, suspended, WindowView}
 use Rattle.rules.specs.Shape.{isEmpty, stateHeld, suspendedFits}
 use Rattle.rules.specs.Window.{isSuspended, requeue, Batch, batchOf, launched, freed, struck, acknowledged, dropped, joined, started}
-use Rattle.rules.specs.Batches.{isEmpty-drop, batchOf-normal, batchOf-fetching, batchOf-more, batchOf-all}
+use Rattle.rules.specs.Batches.{isEmpty-some, isEmpty-drop, batchOf-normal, batchOf-fetching, batchOf-more, batchOf-all}
 use Rattle.rules.specs.Shaped.{WindowShaped}
 use Rattle.rules.specs.KeptWindow.{Queued, queued-none, queued-drop, normalQueued, catchQueued, StateShaped, stateShaped, normal-shaped, fetching-shaped, completed-shaped, fetching-bounds, completed-bound, lined, here-shaped}
 
 -- ------------------------------------------------------------------------
 -- Send
-
-isEmpty-some : (q : List ℕ) → not (isEmpty q) ≡ true → 1 ≤ length q
-isEmpty-some [] h = absurd (false≢true h)
-isEmpty-some (x ∷ q) h = omega arith
 
 pub lastOr-held : (l a : ℕ) (xs : List ℕ) → a ≤ l → all (queuedIn l) xs ≡ true → lastOr a xs ≤ l
 unfolding all
@@ -57,7 +53,7 @@ module _ (l c : ℕ) (most : c ≤ l) (v : WindowView) (s : WindowShaped l c v) 
       (fetching-shaped l c most _ n e (b .0) (b .1) (b .2)))
   batchIn-shaped k (completed e) is here =
       let top = completed-bound s e is in
-      let some : 1 ≤ length (v .catchQueue) = isEmpty-some (v .catchQueue) (rw is at (s .catchUp)) in
+      let some : 1 ≤ length (v .catchQueue) = isEmpty-some (v .catchQueue) (not-true _ (rw is at (s .catchUp))) in
       let m : ℕ = k - length (v .catchQueue) in
       let own : all (queuedIn l) (v .catchQueue ++ take m (v .normalQueue)) ≡ true =
       rw (all-append (queuedIn l) (v .catchQueue) (take m (v .normalQueue))) (and-intro (s .catchIn) (all-take _ m _ (s .normalIn))) in

@@ -3,9 +3,9 @@
 -- At one window: what an operation did that was answered 0.
 pub use Rattle.rules.specs.Turns.{Caught, SentOut, WrittenOff, AckTaken, DroppedOff, JoinedOn, catchAt-older, writtenAt-older, ackAt-older}
 -- What Main, Catch, Send and Ack make of a window, case by case.
-pub use Rattle.rules.specs.Moves.{requeue-same, enqueue-room, mainAt-other, mainAt-suspended, mainAt-room, mainAt-normal, mainAt-fetching, mainAt-completed, mainAt-either, oneIf, fetched-more, fetched-last, launched-is, struck-front}
+pub use Rattle.rules.specs.Moves.{requeue-same, enqueue-suspended, enqueue-room, mainAt-other, mainAt-suspended, mainAt-room, mainAt-normal, mainAt-fetching, mainAt-completed, mainAt-either, oneIf, fetched-more, fetched-last, launched-is, struck-front}
 -- Send's batch in closed form, and what it leaves.
-pub use Rattle.rules.specs.Batches.{isEmpty-drop, batchOf-normal, batchOf-fetching, batchOf-more, batchOf-all, StateAfter, same, emptied, batchOf-state, batchOf-kept}
+pub use Rattle.rules.specs.Batches.{isEmpty-some, isEmpty-drop, batchOf-normal, batchOf-fetching, batchOf-more, batchOf-all, StateAfter, same, emptied, batchOf-state, batchOf-kept}
 -- An answer other than 0 leaves the view as it was (`-refuses`); an operation on window w leaves every other window's view as it was
 -- (`operate-others`); Main, seen at one window, depends on that window and the journal alone (`mainRule-at`).
 pub use Rattle.rules.specs.Laws.{Operated, operate-others, catchRule-refuses, catchRule-done, sendRule-refuses, sendRule-done, writtenRule-refuses, writtenRule-done, ackRule-refuses, ackRule-done, dropRule-refuses, dropRule-done, joinRule-refuses, joinRule-done, MainDone, mainRule-done, mainRule-refuses, mainRule-at, mainNext-at, mainRule-count, mainRule-can}

@@ -16,7 +16,7 @@ use Rattle.rules.specs.View.{PlayerView}
 use Rattle.player.specs.View.{playerOf}
 use Rattle.rules.specs.Shape.{shape}
 use Rattle.rules.specs.Shaped.{shaped}
-use Rattle.player.specs.Guards.{inShape-entries}
+use Rattle.player.specs.InShape.{inShape-entries}
 use Rattle.rules.specs.Rules.{Outcome, windowAt, mainRule, catchRule, writtenRule, dropRule}
 use Rattle.player.specs.Promise.{Keeps}
 use Rattle.delivery.specs.World.{numbersIn, playerIn, answered, called}

@@ -20,7 +20,7 @@ use Rattle.rules.specs.View.{State, normal, fetching, completed, suspended, Win
 use Rattle.player.specs.View.{playerOf}
 use Rattle.rules.specs.Shape.{isEmpty}
 use Rattle.rules.specs.Shaped.{shaped}
-use Rattle.player.specs.Guards.{inShape-entries}
+use Rattle.player.specs.InShape.{inShape-entries}
 use Rattle.rules.specs.Window.{requeue, Ready, none, front, readyIn, Batch, addFront, batchOf, launched}
 use Rattle.rules.specs.Batches.{batchOf-normal, batchOf-fetching, batchOf-more, batchOf-all, batchOf-drained, batchOf-suspended}
 use Rattle.rules.specs.Rules.{windowAt, sendRule, batchNumbers, batchAt, sendOutput}
