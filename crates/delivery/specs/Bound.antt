@@ -8,32 +8,32 @@ use native.Mathlib.Omega.{arith}
 use native.Mathlib.Nat.{mul-add, mul-one, mul-suc, mul-assoc, mul-comm}
 use lib.ListN.{length, getD, set}
 use Rattle.journal.specs.declared.Entry.{Entry}
-use Rattle.rules.specs.View.{State, normal, fetching, completed, suspended}
-use Rattle.delivery.specs.World.{Place, World, noPlace, placeAt, Step, step, run}
+use Rattle.rules.specs.View.{Condition, normal, fetching, completed, suspended}
+use Rattle.delivery.specs.World.{Side, World, noSide, sideAt, Step, step, run}
 use Rattle.delivery.specs.Same.{sameWorld}
 use Rattle.delivery.specs.SameLaws.{sameWorld-itself}
 use Rattle.delivery.specs.Statement.{begins, changes}
 use Rattle.delivery.specs.Invariant.{Inv, Reached, Queues, FetchingQueues}
-use Rattle.delivery.specs.Measure.{ahead, busyOf, placeWork, main-work, worked-lowers}
+use Rattle.delivery.specs.Measure.{ahead, busyOf, sideWork, main-work, worked-lowers}
 use Rattle.delivery.specs.Effects.{Work, stays, mains, works, Facts, working, dropping, joining, starting, appending}
 use Rattle.delivery.specs.SteppedAll.{step-facts}
-use Rattle.delivery.specs.Worlds.{withPlace-count}
+use Rattle.delivery.specs.Worlds.{withSide-count}
 use Rattle.delivery.specs.Reach.{read-in, few-in, reached-step}
 
 -- ------------------------------------------------------------------------
--- a sum over places
+-- a sum over sides
 
-unfoldable pub total : (Place → ℕ) → List Place → ℕ
+unfoldable pub total : (Side → ℕ) → List Side → ℕ
 total f [] = 0
 total f (p ∷ ps) = f p + total f ps
 
-total-set : (f : Place → ℕ) (ps : List Place) (w : ℕ) (p′ : Place) → w < length ps → total f (set ps w p′) + f (getD ps w noPlace) ≡ total f ps + f p′
+total-set : (f : Side → ℕ) (ps : List Side) (w : ℕ) (p′ : Side) → w < length ps → total f (set ps w p′) + f (getD ps w noSide) ≡ total f ps + f p′
 unfolding total
 total-set f [] w p′ h = absurd (omega arith)
 total-set f (p ∷ ps) zero p′ h = omega arith
 total-set f (p ∷ ps) (suc w) p′ h = omega (arith, total-set f ps w p′ (omega arith))
 
-total-le : (f g : Place → ℕ) (ps qs : List Place) → length ps ≡ length qs → ((w : ℕ) → w < length ps → f (getD ps w noPlace) ≤ g (getD qs w noPlace)) →
+total-le : (f g : Side → ℕ) (ps qs : List Side) → length ps ≡ length qs → ((w : ℕ) → w < length ps → f (getD ps w noSide) ≤ g (getD qs w noSide)) →
     total f ps ≤ total g qs
 unfolding total
 total-le f g [] [] e h = omega arith
@@ -41,7 +41,7 @@ total-le f g [] (q ∷ qs) e h = absurd (omega arith)
 total-le f g (p ∷ ps) [] e h = absurd (omega arith)
 total-le f g (p ∷ ps) (q ∷ qs) e h = omega (arith, h 0 (omega arith), total-le f g ps qs (omega arith) (λ w k. h (suc w) (omega arith)))
 
-total-bound : (f : Place → ℕ) (ps : List Place) (b : ℕ) → ((w : ℕ) → w < length ps → f (getD ps w noPlace) ≤ b) → total f ps ≤ b * length ps
+total-bound : (f : Side → ℕ) (ps : List Side) (b : ℕ) → ((w : ℕ) → w < length ps → f (getD ps w noSide) ≤ b) → total f ps ≤ b * length ps
 unfolding total
 total-bound f [] b h = omega arith
 total-bound f (p ∷ ps) b h = simp mul-suc (omega (arith, h 0 (omega arith), total-bound f ps b (λ w k. h (suc w) (omega arith))))
@@ -50,22 +50,22 @@ total-bound f (p ∷ ps) b h = simp mul-suc (omega (arith, h 0 (omega arith), to
 -- the work left in a world
 
 unfoldable pub workLeft : World → ℕ
-workLeft wd = (length (wd .journal) - wd .current) + total (placeWork (length (wd .journal)) (wd .current)) (wd .places)
+workLeft wd = (length (wd .journal) - wd .current) + total (sideWork (length (wd .journal)) (wd .current)) (wd .sides)
 
 abbrev pub mostWork : World → ℕ
-mostWork wd = length (wd .journal) * (1 + 5 * length (wd .places))
+mostWork wd = length (wd .journal) * (1 + 5 * length (wd .sides))
 
-place-bound : (j : List Entry) (c w : ℕ) (p : Place) → Inv j c w p → c ≤ length j → placeWork (length j) c p ≤ 5 * length j
-place-bound j c w p inv read = omega (arith, state (p .view .state) refl, line (p .view .busy) refl)
+side-bound : (j : List Entry) (c w : ℕ) (p : Side) → Inv j c w p → c ≤ length j → sideWork (length j) c p ≤ 5 * length j
+side-bound j c w p inv read = omega (arith, condition (p .view .condition) refl, line (p .view .busy) refl)
   where
-    state : (s : State) → p .view .state ≡ s → ahead (length j) c (p .view .state) ≤ length j
-    state normal e = let a : ahead (length j) c (p .view .state) ≡ length j - c = ap (ahead (length j) c) e in omega arith
-    state (fetching n end) e =
-        let a : ahead (length j) c (p .view .state) ≡ length j - n + 1 = ap (ahead (length j) c) e in
+    condition : (s : Condition) → p .view .condition ≡ s → ahead (length j) c (p .view .condition) ≤ length j
+    condition normal e = let a : ahead (length j) c (p .view .condition) ≡ length j - c = ap (ahead (length j) c) e in omega arith
+    condition (fetching n end) e =
+        let a : ahead (length j) c (p .view .condition) ≡ length j - n + 1 = ap (ahead (length j) c) e in
         let k : FetchingQueues j c w (p .view) n end = subst (Queues j c w (p .view)) e (inv .queues) in
         omega (arith, k .behind, k .order, k .read)
-    state (completed end) e = let a : ahead (length j) c (p .view .state) ≡ length j - end = ap (ahead (length j) c) e in omega arith
-    state suspended e = let a : ahead (length j) c (p .view .state) ≡ length j - c = ap (ahead (length j) c) e in omega arith
+    condition (completed end) e = let a : ahead (length j) c (p .view .condition) ≡ length j - end = ap (ahead (length j) c) e in omega arith
+    condition suspended e = let a : ahead (length j) c (p .view .condition) ≡ length j - c = ap (ahead (length j) c) e in omega arith
 
     line : (b : Bool) → p .view .busy ≡ b → length j - p .view .sent + busyOf (p .view .busy) ≤ length j
     line true e = let a : busyOf (p .view .busy) ≡ 1 = ap busyOf e in omega (arith, inv .busySent e, inv .sentIn)
@@ -75,11 +75,11 @@ pub workLeft-most : (wd : World) → Reached wd → workLeft wd ≤ mostWork wd
 unfolding workLeft
 workLeft-most wd r =
     let l : ℕ = length (wd .journal) in
-    let n : ℕ = length (wd .places) in
+    let n : ℕ = length (wd .sides) in
     let most : l * (1 + 5 * n) ≡ l + 5 * l * n = mul-add l 1 (5 * n) ∙ ap₂ (λ a b. a + b) (mul-one l) (sym (mul-assoc l 5 n) ∙ ap (λ x. x * n) (mul-comm l 5)) in
     omega (
       arith,
-      total-bound (placeWork l (wd .current)) (wd .places) (5 * l) (λ w h. place-bound (wd .journal) (wd .current) w (placeAt w wd) (r .each w h) (read-in wd r)),
+      total-bound (sideWork l (wd .current)) (wd .sides) (5 * l) (λ w h. side-bound (wd .journal) (wd .current) w (sideAt w wd) (r .each w h) (read-in wd r)),
     )
 
 -- ------------------------------------------------------------------------
@@ -91,27 +91,27 @@ work-lowers wd wd′ r (stays e) = inl e
 work-lowers wd wd′ r (mains m) =
     let l : ℕ = length (wd .journal) in
     let len : length (wd′ .journal) ≡ length (wd .journal) = ap length (m .journal) in
-    let each : (w : ℕ) → w < length (wd′ .places) →
-    placeWork (length (wd′ .journal)) (wd′ .current) (placeAt w wd′) ≤ placeWork (length (wd .journal)) (wd .current) (placeAt w wd)
+    let each : (w : ℕ) → w < length (wd′ .sides) →
+    sideWork (length (wd′ .journal)) (wd′ .current) (sideAt w wd′) ≤ sideWork (length (wd .journal)) (wd .current) (sideAt w wd)
     = λ w h.
-    let k : w < length (wd .places) = omega (arith, m .count) in
-    subst⁻¹ (λ n. n ≤ placeWork (length (wd .journal)) (wd .current) (placeAt w wd))
-    (λ i. placeWork (length (m .journal i)) (m .current i) (m .each w k i))
-    (main-work (wd .journal) (length (wd .journal)) (wd .current) w (placeAt w wd) (r .each w k) (m .below) refl) in
+    let k : w < length (wd .sides) = omega (arith, m .count) in
+    subst⁻¹ (λ n. n ≤ sideWork (length (wd .journal)) (wd .current) (sideAt w wd))
+    (λ i. sideWork (length (m .journal i)) (m .current i) (m .each w k i))
+    (main-work (wd .journal) (length (wd .journal)) (wd .current) w (sideAt w wd) (r .each w k) (m .below) refl) in
     inr
     (omega (
       arith,
       m .below,
       m .current,
-      total-le (placeWork (length (wd′ .journal)) (wd′ .current)) (placeWork (length (wd .journal)) (wd .current)) (wd′ .places) (wd .places) (m .count) each,
+      total-le (sideWork (length (wd′ .journal)) (wd′ .current)) (sideWork (length (wd .journal)) (wd .current)) (wd′ .sides) (wd .sides) (m .count) each,
     ))
 work-lowers wd wd′ r (works w h p′ work e s) =
     inr
     (subst⁻¹ (λ x. workLeft x < workLeft wd) e
     (omega (
       arith,
-      total-set (placeWork (length (wd .journal)) (wd .current)) (wd .places) w p′ h,
-      worked-lowers (wd .journal) (wd .current) (wd .limit) w (placeAt w wd) p′ (read-in wd r) (few-in wd r) (r .each w h) work,
+      total-set (sideWork (length (wd .journal)) (wd .current)) (wd .sides) w p′ h,
+      worked-lowers (wd .journal) (wd .current) (wd .limit) w (sideAt w wd) p′ (read-in wd r) (few-in wd r) (r .each w h) work,
     )))
 
 -- ------------------------------------------------------------------------
@@ -121,7 +121,7 @@ work-lowers wd wd′ r (works w h p′ work e s) =
 pub work-most : (wd wd′ : World) → Work wd wd′ → mostWork wd′ ≡ mostWork wd
 work-most wd wd′ (stays e) = ap mostWork e
 work-most wd wd′ (mains m) = ap₂ (λ j n. length j * (1 + 5 * n)) (m .journal) (m .count)
-work-most wd wd′ (works w h p′ work e s) = ap mostWork e ∙ ap (λ n. length (wd .journal) * (1 + 5 * n)) (withPlace-count w p′ wd)
+work-most wd wd′ (works w h p′ work e s) = ap mostWork e ∙ ap (λ n. length (wd .journal) * (1 + 5 * n)) (withSide-count w p′ wd)
 
 -- ------------------------------------------------------------------------
 -- the count

@@ -12,14 +12,14 @@ use Rattle.journal.specs.declared.Entry.{Entry}
 use Rattle.journal.specs.Entry.{numbersOf, placedAt}
 use Rattle.journal.specs.Due.{due, due-split, due-empty}
 use Rattle.journal.specs.Own.{own, own-due}
-use Rattle.window.specs.Record.{newRecord, takeAll}
-use Rattle.window.specs.Laws.{takeAll-nil}
+use Rattle.record.specs.Record.{newRecord, takeAll}
+use Rattle.record.specs.Laws.{takeAll-nil}
 use Rattle.rules.specs.View.{WindowView, PlayerView, noWindow}
 use Rattle.rules.specs.Shape.{shape}
 use Rattle.rules.specs.Window.{isSuspended, started}
 use Rattle.rules.specs.Rules.{windowAt, least}
-use Rattle.rules.specs.Offers.{StartDone, startRule-done, startNext-at, least-some, start-keeps}
-use Rattle.delivery.specs.World.{Place, World, placeAt, playerIn, newPlace, opened, Step, run}
+use Rattle.rules.specs.Offers.{StartDone, startRule-done, startNext-at, least-some, start-shaped}
+use Rattle.delivery.specs.World.{Side, World, sideAt, playerIn, newSide, opened, Step, run}
 use Rattle.delivery.specs.Statement.{changes, Leading, Delivers, firstStart, Demand3}
 use Rattle.delivery.specs.Invariant.{Inv, Reached, lastOf, endsOf}
 use Rattle.delivery.specs.Reach.{reached-run}
@@ -30,7 +30,7 @@ use Rattle.delivery.specs.Finish.{taken-all}
 -- ------------------------------------------------------------------------
 -- the leading part
 
-leading-part : (j : List Entry) (c w : ℕ) (p : Place) → Inv j c w p → Leading j w p
+leading-part : (j : List Entry) (c w : ℕ) (p : Side) → Inv j c w p → Leading j w p
 leading-part j c w p inv =
     let before : List _ = map (placedAt j) (due j w 0 (lastOf p)) in
     let split : own j w ≡ map (placedAt j) (due j w 0 (lastOf p)) ++ map (placedAt j) (due j w (lastOf p) (length j))
@@ -48,7 +48,7 @@ leading-part j c w p inv =
 -- ------------------------------------------------------------------------
 -- the beginning
 
-new-inv : (j : List Entry) (w : ℕ) → Inv j 0 w (newPlace (started 0))
+new-inv : (j : List Entry) (w : ℕ) → Inv j 0 w (newSide (started 0))
 unfolding endsOf
 new-inv j w = record {
   ackedLast = le-refl 0;
@@ -67,7 +67,7 @@ new-inv j w = record {
   queues = sym (due-empty j w 0 0 (le-refl 0));
 }
 
-views-new : (vs : List WindowView) → map (λ p. p .view) (map newPlace vs) ≡ vs
+views-new : (vs : List WindowView) → map (λ p. p .view) (map newSide vs) ≡ vs
 views-new [] = refl
 views-new (v ∷ vs) = ap (λ l. v ∷ l) (views-new vs)
 
@@ -78,10 +78,10 @@ module _ (before : PlayerView) (j : List Entry) (count limit : ℕ) (done : firs
   reports-zero : (w : ℕ) → w < length (replicate {A = ℕ} count 0) → _≡_ {A = ℕ} (getD (replicate count 0) w 0) 0
   reports-zero w h = getD-replicate count w 0 0 (omega (arith, length-replicate {A = ℕ} count 0))
 
-  opened-count : length (opened j (firstStart before j count limit) .places) ≡ count
+  opened-count : length (opened j (firstStart before j count limit) .sides) ≡ count
   unfolding opened
   opened-count =
-      length-map (firstStart before j count limit .next .windows) newPlace
+      length-map (firstStart before j count limit .next .windows) newSide
       ∙ ap (λ q. length (q .windows)) (start-done .next)
       ∙ length-map (replicate count 0) started
       ∙ length-replicate count 0
@@ -92,12 +92,12 @@ module _ (before : PlayerView) (j : List Entry) (count limit : ℕ) (done : firs
       let low : least (replicate count 0) ≤ 0 = least-some 0 (replicate count 0) (λ w h. omega (arith, reports-zero w h)) in
       ap (λ q. q .current) (start-done .next) ∙ (let z : least (replicate count 0) ≡ 0 = omega arith in z)
 
-  opened-place : (w : ℕ) → w < count → placeAt w (opened j (firstStart before j count limit)) ≡ newPlace (started 0)
+  opened-side : (w : ℕ) → w < count → sideAt w (opened j (firstStart before j count limit)) ≡ newSide (started 0)
   unfolding opened
-  opened-place w h =
+  opened-side w h =
       let k : w < length (replicate {A = ℕ} count 0) = omega (arith, length-replicate {A = ℕ} count 0) in
-      List·getD-map newPlace (firstStart before j count limit .next .windows) w noWindow
-      ∙ ap newPlace (ap (windowAt w) (start-done .next) ∙ startNext-at limit (replicate count 0) w k ∙ ap started (reports-zero w k))
+      List·getD-map newSide (firstStart before j count limit .next .windows) w noWindow
+      ∙ ap newSide (ap (windowAt w) (start-done .next) ∙ startNext-at limit (replicate count 0) w k ∙ ap started (reports-zero w k))
 
   opened-shape : shape (numbersOf j) (playerIn (opened j (firstStart before j count limit))) ≡ true
   unfolding opened
@@ -107,7 +107,7 @@ module _ (before : PlayerView) (j : List Entry) (count limit : ℕ) (done : firs
         current = firstStart before j count limit .next .current;
         windows = vs;
       })) (views-new (firstStart before j count limit .next .windows))
-      ∙ start-keeps (numbersOf j) count limit (replicate count 0) before done
+      ∙ start-shaped (numbersOf j) count limit (replicate count 0) before done
 
   opened-journal : opened j (firstStart before j count limit) .journal ≡ j
   unfolding opened
@@ -117,24 +117,24 @@ module _ (before : PlayerView) (j : List Entry) (count limit : ℕ) (done : firs
   opened-reached = record {
     inShape = subst⁻¹ (λ x. shape (numbersOf x) (playerIn (opened j (firstStart before j count limit))) ≡ true) opened-journal opened-shape;
     each = λ w h.
-        subst⁻¹ (λ x. Inv x (opened j (firstStart before j count limit) .current) w (placeAt w (opened j (firstStart before j count limit)))) opened-journal
-        (subst⁻¹ (λ c. Inv j c w (placeAt w (opened j (firstStart before j count limit)))) opened-current
-        (subst⁻¹ (Inv j 0 w) (opened-place w (omega (arith, opened-count))) (new-inv j w)));
+        subst⁻¹ (λ x. Inv x (opened j (firstStart before j count limit) .current) w (sideAt w (opened j (firstStart before j count limit)))) opened-journal
+        (subst⁻¹ (λ c. Inv j c w (sideAt w (opened j (firstStart before j count limit)))) opened-current
+        (subst⁻¹ (Inv j 0 w) (opened-side w (omega (arith, opened-count))) (new-inv j w)));
   }
 
   delivers : (steps : List Step) → Delivers count (opened j (firstStart before j count limit)) steps
   delivers steps =
       let wd : World = opened j (firstStart before j count limit) in
       let reached : Reached (run wd steps) = reached-run wd steps opened-reached in
-      let n : length (run wd steps .places) ≡ count = run-count wd steps opened-reached ∙ opened-count in
+      let n : length (run wd steps .sides) ≡ count = run-count wd steps opened-reached ∙ opened-count in
       record {
-        leading = λ w h. leading-part (run wd steps .journal) (run wd steps .current) w (placeAt w (run wd steps)) (reached .each w (omega arith));
+        leading = λ w h. leading-part (run wd steps .journal) (run wd steps .current) w (sideAt w (run wd steps)) (reached .each w (omega arith));
         bound = λ joined.
             subst (λ k. changes 0 wd steps ≤ length (run wd steps .journal) * (1 + 5 * k)) n
             (changes-bound 0 wd steps opened-reached (omega (arith, workLeft-most wd opened-reached)));
         finish = λ joined none w h.
             taken-all (run wd steps) reached none w (omega arith)
-            (joined-run wd steps w true opened-reached (omega (arith, opened-count)) (ap (λ p. isSuspended (p .view .state)) (opened-place w h))
+            (joined-run wd steps w true opened-reached (omega (arith, opened-count)) (ap (λ p. isSuspended (p .view .condition)) (opened-side w h))
             ∙ ap not (joined w h));
       }
 

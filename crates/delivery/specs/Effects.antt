@@ -9,15 +9,15 @@ use Rattle.rules.specs.declared.Term.{Term}
 use Rattle.rules.specs.Shape.{shape}
 use Rattle.rules.specs.Window.{isSuspended, wanted, mainAt, fetched, batchOf, freed, acknowledged, dropped, joined, started}
 use Rattle.rules.specs.Offers.{Caught, SentOut, WrittenOff, AckTaken}
-use Rattle.delivery.specs.World.{Sent, Ack, Place, World, placeAt, numbersIn, playerIn, withView, withLines, withPlace, takeFront, cleared, Step, drop, join, start, append, step}
+use Rattle.delivery.specs.World.{Sent, Ack, Side, World, sideAt, numbersIn, playerIn, withView, withLines, withSide, takeFront, cleared, Step, drop, join, start, append, step}
 use Rattle.delivery.specs.Invariant.{lastOf}
-use Rattle.delivery.specs.KeepSend.{launchedPlace}
+use Rattle.delivery.specs.KeepSend.{launchedSide}
 use Rattle.delivery.specs.Statement.{isDone, begins}
 
 -- the work of one window: Catch, Send, Written, Take or Ack answered 0
-pub data Worked (j : List Entry) (limit w : ℕ) (p p′ : Place) : Type 0 where
+pub data Worked (j : List Entry) (limit w : ℕ) (p p′ : Side) : Type 0 where
   caught : (t : Term) (i : ℕ) (c : Caught j w t i (p .view)) → p′ ≡ withView (fetched (wanted j w i (p .view)) i (c .upto) (p .view)) p → Worked j limit w p p′
-  sent : (size : ℕ) → SentOut limit size (p .view) → p′ ≡ launchedPlace j (batchOf limit (p .view)) p → Worked j limit w p p′
+  sent : (size : ℕ) → SentOut limit size (p .view) → p′ ≡ launchedSide j (batchOf limit (p .view)) p → Worked j limit w p p′
   written : (t : Term) → WrittenOff t (p .view) → p′ ≡ withView (freed (p .view)) p → Worked j limit w p p′
   took : (s : Sent) (rest : List Sent) → p .line ≡ s ∷ rest → p′ ≡ takeFront s rest p → Worked j limit w p p′
   acked : (a : Ack) (rest : List Ack) → p .back ≡ a ∷ rest → AckTaken (a .term) (a .index) (p .view) →
@@ -28,43 +28,43 @@ pub record Mained (wd wd′ : World) : Type 0 where
   pub below : wd .current < length (wd .journal)
   pub journal : wd′ .journal ≡ wd .journal
   pub current : wd′ .current ≡ suc (wd .current)
-  pub count : length (wd′ .places) ≡ length (wd .places)
-  pub each : (w : ℕ) → w < length (wd .places) →
-      placeAt w wd′ ≡ withView (mainAt (wd .journal) w (suc (wd .current)) (placeAt w wd .view)) (placeAt w wd)
+  pub count : length (wd′ .sides) ≡ length (wd .sides)
+  pub each : (w : ℕ) → w < length (wd .sides) →
+      sideAt w wd′ ≡ withView (mainAt (wd .journal) w (suc (wd .current)) (sideAt w wd .view)) (sideAt w wd)
   pub shaped : shape (numbersIn wd′) (playerIn wd′) ≡ true
 
 -- a step that is neither a fault nor an append
 pub data Work (wd wd′ : World) : Type 0 where
   stays : wd′ ≡ wd → Work wd wd′
   mains : Mained wd wd′ → Work wd wd′
-  works : (w : ℕ) → w < length (wd .places) → (p′ : Place) → Worked (wd .journal) (wd .limit) w (placeAt w wd) p′ → wd′ ≡ withPlace w p′ wd →
+  works : (w : ℕ) → w < length (wd .sides) → (p′ : Side) → Worked (wd .journal) (wd .limit) w (sideAt w wd) p′ → wd′ ≡ withSide w p′ wd →
       shape (numbersIn wd′) (playerIn wd′) ≡ true → Work wd wd′
 
 -- a step that does the work of window w
 pub record WorksAt (s : Step) (wd : World) (w : ℕ) : Type 0 where
-  pub within : w < length (wd .places)
-  pub after : Place
-  pub work : Worked (wd .journal) (wd .limit) w (placeAt w wd) after
-  pub world : step s wd .world ≡ withPlace w after wd
+  pub within : w < length (wd .sides)
+  pub after : Side
+  pub work : Worked (wd .journal) (wd .limit) w (sideAt w wd) after
+  pub world : step s wd .world ≡ withSide w after wd
   pub shaped : shape (numbersIn (step s wd .world)) (playerIn (step s wd .world)) ≡ true
 
 -- Start answered 0: each window begins anew from its report, and `current` is the least of them
 pub record Restarted (wd wd′ : World) : Type 0 where
   pub journal : wd′ .journal ≡ wd .journal
-  pub count : length (wd′ .places) ≡ length (wd .places)
-  pub least : (w : ℕ) → w < length (wd .places) → wd′ .current ≤ lastOf (placeAt w wd)
-  pub each : (w : ℕ) → w < length (wd .places) → placeAt w wd′ ≡ cleared (withView (started (lastOf (placeAt w wd))) (placeAt w wd))
+  pub count : length (wd′ .sides) ≡ length (wd .sides)
+  pub least : (w : ℕ) → w < length (wd .sides) → wd′ .current ≤ lastOf (sideAt w wd)
+  pub each : (w : ℕ) → w < length (wd .sides) → sideAt w wd′ ≡ cleared (withView (started (lastOf (sideAt w wd))) (sideAt w wd))
   pub shaped : shape (numbersIn wd′) (playerIn wd′) ≡ true
 
 -- what a step does
 pub data Facts (s : Step) (wd : World) : Type 0 where
   working : begins s (step s wd .reply) ≡ false → Work wd (step s wd .world) → Facts s wd
-  dropping : (w : ℕ) → s ≡ drop w → isDone (step s wd .reply) ≡ true → w < length (wd .places) →
-      step s wd .world ≡ withPlace w (withView (dropped (placeAt w wd .view)) (placeAt w wd)) wd →
+  dropping : (w : ℕ) → s ≡ drop w → isDone (step s wd .reply) ≡ true → w < length (wd .sides) →
+      step s wd .world ≡ withSide w (withView (dropped (sideAt w wd .view)) (sideAt w wd)) wd →
       shape (numbersIn (step s wd .world)) (playerIn (step s wd .world)) ≡ true → Facts s wd
-  joining : (w : ℕ) → s ≡ join w → isDone (step s wd .reply) ≡ true → w < length (wd .places) → isSuspended (placeAt w wd .view .state) ≡ true →
-      step s wd .world ≡ withPlace w (cleared (withView (joined (wd .current) (lastOf (placeAt w wd)) (placeAt w wd .view)) (placeAt w wd))) wd →
+  joining : (w : ℕ) → s ≡ join w → isDone (step s wd .reply) ≡ true → w < length (wd .sides) → isSuspended (sideAt w wd .view .condition) ≡ true →
+      step s wd .world ≡ withSide w (cleared (withView (joined (wd .current) (lastOf (sideAt w wd)) (sideAt w wd .view)) (sideAt w wd))) wd →
       shape (numbersIn (step s wd .world)) (playerIn (step s wd .world)) ≡ true → Facts s wd
   starting : (b : ℕ) → s ≡ start b → isDone (step s wd .reply) ≡ true → Restarted wd (step s wd .world) → Facts s wd
   appending : (e : Entry) → s ≡ append e → isDone (step s wd .reply) ≡ true → length (wd .journal) < 65535 →
-      step s wd .world ≡ record { journal = wd .journal ++ (e ∷ []); limit = wd .limit; current = wd .current; places = wd .places } → Facts s wd
+      step s wd .world ≡ record { journal = wd .journal ++ (e ∷ []); limit = wd .limit; current = wd .current; sides = wd .sides } → Facts s wd

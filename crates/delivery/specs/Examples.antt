@@ -5,14 +5,14 @@ use mathlib.Core.List.{List, [], _∷_}
 use lib.ListN.{replicate}
 use Rattle.journal.specs.declared.Entry.{Entry}
 use Rattle.journal.specs.Entry.{entry4, numbersOf, entriesOf, entryAt, hasWindow, isFor}
-use Rattle.queue.specs.Items.{all}
-use Rattle.window.specs.Record.{raceAfter, racesAfter, recordAfter, takeEntry, takeNumbers}
+use Rattle.lists.specs.All.{all}
+use Rattle.record.specs.Record.{raceAfter, racesAfter, recordAfter, takeEntry, takeNumbers}
 use Rattle.rules.specs.declared.Term.{Term}
 use Rattle.rules.specs.View.{PlayerView}
 use Rattle.rules.specs.Shape.{windowShape, allWindows, shape}
 use Rattle.rules.specs.Window.{check, enqueue, mainAt, fetched, catchIn, catchAt, readyIn, batchOf, launched, sendAt, writtenAt, struck, ackAt, dropAt, joinAt}
 use Rattle.rules.specs.Rules.{operate, mapWindows, mainRule, catchRule, writtenRule, ackRule, dropRule, joinRule, sendRule, areReports, least, startRule}
-use Rattle.delivery.specs.World.{World, placeAt, withViews, withPlayer, onLine, takeFront, Step, main, catch, written, send, take, ack, drop, join, start, Reply, answered, empty, step, run, opened}
+use Rattle.delivery.specs.World.{World, sideAt, withViews, withPlayer, onLine, takeFront, Step, main, catch, written, send, take, ack, drop, join, start, Reply, answered, empty, step, run, opened}
 
 -- the replies of a list of steps
 unfoldable pub replies : World → List Step → List Reply
@@ -25,7 +25,7 @@ pub record Shown : Type 0 where
   pub count : ℕ
 
 abbrev pub shownAt : ℕ → World → Shown
-shownAt w wd = record { last = placeAt w wd .record′ .last .0; count = placeAt w wd .record′ .count }
+shownAt w wd = record { last = sideAt w wd .record′ .last .0; count = sideAt w wd .record′ .count }
 
 abbrev pub nobody : PlayerView
 nobody = record { limit = 0; current = 0; windows = [] }
@@ -69,7 +69,7 @@ pub record DropBeforeAck : Type 0 where
   pub answers : replies (openedWith afternoon 2) dropSteps ≡
       answered 0 ∷ answered 0 ∷ answered 0 ∷ answered 0 ∷ answered 0 ∷ answered 0 ∷ answered 3 ∷ answered 0 ∷ empty ∷ answered 0 ∷ answered 4 ∷ answered 8 ∷ []
   pub window0 : shownAt 0 (run (openedWith afternoon 2) dropSteps) ≡ record { last = 2; count = 2 }
-  pub acknowledged : placeAt 0 (run (openedWith afternoon 2) dropSteps) .view .acked ≡ 2
+  pub acknowledged : sideAt 0 (run (openedWith afternoon 2) dropSteps) .view .acked ≡ 2
 
 pub drop-before-ack : DropBeforeAck
 unfolding replies run step opened startRule areReports least mainRule catchRule writtenRule ackRule dropRule joinRule sendRule operate mapWindows shape windowShape allWindows all check enqueue mainAt fetched catchIn catchAt readyIn batchOf launched sendAt writtenAt struck ackAt dropAt joinAt withViews withPlayer onLine takeFront raceAfter racesAfter recordAfter takeEntry takeNumbers numbersOf entriesOf entryAt hasWindow isFor

@@ -7,16 +7,17 @@ use mathlib.Core.Bool.{true, false, cond}
 use lib.ListN.{length}
 use Rattle.journal.specs.declared.Entry.{Entry}
 use Rattle.journal.specs.Entry.{Placed, placedAt}
-use Rattle.journal.specs.Due.{due, Rising}
-use Rattle.window.specs.Record.{newRecord, takeAll}
+use Rattle.journal.specs.Due.{due}
+use Rattle.lists.specs.Rising.{Rising}
+use Rattle.record.specs.Record.{newRecord, takeAll}
 use Rattle.rules.specs.declared.Term.{Term}
-use Rattle.rules.specs.View.{State, normal, fetching, completed, suspended, WindowView}
+use Rattle.rules.specs.View.{Condition, normal, fetching, completed, suspended, WindowView}
 use Rattle.rules.specs.Shape.{isEmpty, shape}
 use Rattle.rules.specs.Window.{isSuspended, isReport}
-use Rattle.delivery.specs.World.{Sent, Ack, Place, World, placeAt, numbersIn, playerIn}
+use Rattle.delivery.specs.World.{Sent, Ack, Side, World, sideAt, numbersIn, playerIn}
 
 -- the last index in a window's record
-abbrev pub lastOf : Place → ℕ
+abbrev pub lastOf : Side → ℕ
 lastOf p = p .record′ .last .0
 
 abbrev pub backIndices : List Ack → List ℕ
@@ -61,14 +62,14 @@ pub record NoQueues (v : WindowView) : Type 0 where
   pub catchIs : v .catchQueue ≡ []
   pub batchesIs : v .batches ≡ []
 
-abbrev pub Queues : List Entry → ℕ → ℕ → WindowView → State → Type 0
+abbrev pub Queues : List Entry → ℕ → ℕ → WindowView → Condition → Type 0
 Queues j current w v normal = v .normalQueue ≡ due j w (v .sent) current
 Queues j current w v (fetching n e) = FetchingQueues j current w v n e
 Queues j current w v (completed e) = CompletedQueues j current w v e
 Queues j current w v suspended = NoQueues v
 
 -- a window's side of a reachable world
-pub record Inv (j : List Entry) (current w : ℕ) (p : Place) : Type 0 where
+pub record Inv (j : List Entry) (current w : ℕ) (p : Side) : Type 0 where
   pub ackedLast : p .view .acked ≤ lastOf p
   pub lastSent : lastOf p ≤ p .view .sent
   pub sentIn : p .view .sent ≤ length j
@@ -83,13 +84,13 @@ pub record Inv (j : List Entry) (current w : ℕ) (p : Place) : Type 0 where
   -- the acks on the way back rise from the acknowledged index to last
   pub backRises : Rising (p .view .acked) (backIndices (p .back)) (lastOf p)
   -- the unacknowledged batches are the acks on the way back, then the batches on the line
-  pub batchesIs : isSuspended (p .view .state) ≡ false → p .view .batches ≡ backIndices (p .back) ++ endsOf (p .line)
+  pub batchesIs : isSuspended (p .view .condition) ≡ false → p .view .batches ≡ backIndices (p .back) ++ endsOf (p .line)
   pub busySent : p .view .busy ≡ true → 1 ≤ p .view .sent
   -- a window is ahead of the main stream only with nothing out
-  pub notAhead : isSuspended (p .view .state) ≡ false → (p .view .sent ≤ current) ⊎ (p .view .acked ≡ p .view .sent)
-  pub queues : Queues j current w (p .view) (p .view .state)
+  pub notAhead : isSuspended (p .view .condition) ≡ false → (p .view .sent ≤ current) ⊎ (p .view .acked ≡ p .view .sent)
+  pub queues : Queues j current w (p .view) (p .view .condition)
 
 -- a reachable world: in shape, and each window's side as above
 pub record Reached (wd : World) : Type 0 where
   pub inShape : shape (numbersIn wd) (playerIn wd) ≡ true
-  pub each : (w : ℕ) → w < length (wd .places) → Inv (wd .journal) (wd .current) w (placeAt w wd)
+  pub each : (w : ℕ) → w < length (wd .sides) → Inv (wd .journal) (wd .current) w (sideAt w wd)

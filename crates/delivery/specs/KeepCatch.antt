@@ -8,14 +8,14 @@ use native.Mathlib.Omega.{arith}
 use borrow.Author.Tests.{lt-ltb}
 use Rattle.journal.specs.declared.Entry.{Entry}
 use Rattle.journal.specs.Entry.{isFor}
-use Rattle.journal.specs.Cases.{true-or-false, le-or-lt}
+use Rattle.lists.specs.Cases.{true-or-false, le-or-lt}
 use Rattle.journal.specs.Due.{due, one, due-split, due-more}
 use Rattle.rules.specs.declared.Term.{Term}
-use Rattle.rules.specs.View.{State, normal, fetching, completed, WindowView}
+use Rattle.rules.specs.View.{Condition, normal, fetching, completed, WindowView}
 use Rattle.rules.specs.Shape.{isEmpty}
 use Rattle.rules.specs.Window.{isSuspended, requeue, wanted, fetched}
 use Rattle.rules.specs.Offers.{oneIf, fetched-more, fetched-last, Caught}
-use Rattle.delivery.specs.World.{Place, withView}
+use Rattle.delivery.specs.World.{Side, withView}
 use Rattle.delivery.specs.Invariant.{Inv, Queues, FetchingQueues}
 use Rattle.delivery.specs.KeepMain.{inv-requeue}
 
@@ -28,7 +28,7 @@ due-upto : (j : List Entry) (w a i : ℕ) → a < i → due j w a i ≡ due j w 
 due-upto j w a zero h = absurd (omega arith)
 due-upto j w a (suc i) h = let e : suc i - 1 ≡ i = omega arith in rw e (due-more j w a i (omega arith))
 
-module _ (j : List Entry) (c w : ℕ) (p : Place) (inv : Inv j c w p) (t : Term) (i : ℕ) (caught : Caught j w t i (p .view)) where
+module _ (j : List Entry) (c w : ℕ) (p : Side) (inv : Inv j c w p) (t : Term) (i : ℕ) (caught : Caught j w t i (p .view)) where
   queuesBefore : FetchingQueues j c w (p .view) i (caught .upto)
   queuesBefore = subst (Queues j c w (p .view)) (caught .was) (inv .queues)
 
@@ -45,7 +45,7 @@ module _ (j : List Entry) (c w : ℕ) (p : Place) (inv : Inv j c w p) (t : Term)
       ∙ ap (λ l. l ++ one j w i) (queuesBefore .catchIs)
       ∙ sym (due-upto j w (p .view .sent) i (queuesBefore .behind))
 
-  by-law : (s : State) (v : WindowView) → fetched (wanted j w i (p .view)) i (caught .upto) (p .view) ≡ v →
+  by-law : (s : Condition) (v : WindowView) → fetched (wanted j w i (p .view)) i (caught .upto) (p .view) ≡ v →
       v ≡ requeue (p .view .normalQueue) (p .view .catchQueue ++ oneIf (wanted j w i (p .view)) i) s (p .view) →
       Queues j c w (requeue (p .view .normalQueue) (p .view .catchQueue ++ oneIf (wanted j w i (p .view)) i) s (p .view)) s →
       Inv j c w (withView (fetched (wanted j w i (p .view)) i (caught .upto) (p .view)) p)

@@ -12,14 +12,15 @@ use lib.Dec.{eqb}
 use Rattle.journal.specs.declared.Entry.{Entry}
 use Rattle.journal.specs.Entry.{placedAt}
 use Rattle.journal.specs.EntryLaws.{entryAt-append, isFor-append}
-use Rattle.journal.specs.Cases.{le-or-lt}
-use Rattle.journal.specs.Due.{due, Rising, due-empty, due-rising, due-append}
-use Rattle.rules.specs.View.{State, normal, fetching, completed, suspended, WindowView}
+use Rattle.lists.specs.Cases.{le-or-lt}
+use Rattle.journal.specs.Due.{due, due-empty, due-rising, due-append}
+use Rattle.lists.specs.Rising.{Rising}
+use Rattle.rules.specs.View.{Condition, normal, fetching, completed, suspended, WindowView}
 use Rattle.rules.specs.Window.{isSuspended, isReport, dropped, joined, started}
-use Rattle.delivery.specs.World.{Place, withView, cleared}
+use Rattle.delivery.specs.World.{Side, withView, cleared}
 use Rattle.delivery.specs.Invariant.{Inv, Queues, NoQueues, lastOf, endsOf}
 
-pub suspended-is : (s : State) → isSuspended s ≡ true → s ≡ suspended
+pub suspended-is : (s : Condition) → isSuspended s ≡ true → s ≡ suspended
 suspended-is normal e = absurd (true≢false (sym e))
 suspended-is (fetching n end) e = absurd (true≢false (sym e))
 suspended-is (completed end) e = absurd (true≢false (sym e))
@@ -28,7 +29,7 @@ suspended-is suspended e = refl
 -- ------------------------------------------------------------------------
 -- Drop
 
-pub keep-drop : (j : List Entry) (c w : ℕ) (p : Place) → Inv j c w p → Inv j c w (withView (dropped (p .view)) p)
+pub keep-drop : (j : List Entry) (c w : ℕ) (p : Side) → Inv j c w p → Inv j c w (withView (dropped (p .view)) p)
 keep-drop j c w p inv = record {
   ackedLast = inv .ackedLast;
   lastSent = inv .lastSent;
@@ -50,8 +51,8 @@ keep-drop j c w p inv = record {
 -- Join and Start: both ways of the line are empty, and acknowledged and sent are the record's last index
 
 -- a window that begins anew from its report
-renewed : (j : List Entry) (c c′ w : ℕ) (p : Place) (v : WindowView) → Inv j c w p → v .acked ≡ lastOf p → v .sent ≡ lastOf p → v .busy ≡ false →
-    v .batches ≡ [] → Queues j c′ w v (v .state) → Inv j c′ w (cleared (withView v p))
+renewed : (j : List Entry) (c c′ w : ℕ) (p : Side) (v : WindowView) → Inv j c w p → v .acked ≡ lastOf p → v .sent ≡ lastOf p → v .busy ≡ false →
+    v .batches ≡ [] → Queues j c′ w v (v .condition) → Inv j c′ w (cleared (withView v p))
 unfolding endsOf
 renewed j c c′ w p v inv acked sent free none queues = record {
   ackedLast = omega arith;
@@ -70,13 +71,13 @@ renewed j c c′ w p v inv acked sent free none queues = record {
   queues = queues;
 }
 
-pub keep-start : (j : List Entry) (c c′ w : ℕ) (p : Place) → Inv j c w p → c′ ≤ lastOf p → Inv j c′ w (cleared (withView (started (lastOf p)) p))
+pub keep-start : (j : List Entry) (c c′ w : ℕ) (p : Side) → Inv j c w p → c′ ≤ lastOf p → Inv j c′ w (cleared (withView (started (lastOf p)) p))
 keep-start j c c′ w p inv h = renewed j c c′ w p (started (lastOf p)) inv refl refl refl refl (sym (due-empty j w (lastOf p) c′ h))
 
-pub keep-join : (j : List Entry) (c w : ℕ) (p : Place) → Inv j c w p → isSuspended (p .view .state) ≡ true →
+pub keep-join : (j : List Entry) (c w : ℕ) (p : Side) → Inv j c w p → isSuspended (p .view .condition) ≡ true →
     Inv j c w (cleared (withView (joined c (lastOf p) (p .view)) p))
 keep-join j c w p inv away =
-    let none : NoQueues (p .view) = subst (Queues j c w (p .view)) (suspended-is (p .view .state) away) (inv .queues) in
+    let none : NoQueues (p .view) = subst (Queues j c w (p .view)) (suspended-is (p .view .condition) away) (inv .queues) in
     renewed j c c w p (joined c (lastOf p) (p .view)) inv refl refl refl (none .batchesIs)
     (⊎-elim
     (λ (h : c ≤ lastOf p).
@@ -109,7 +110,7 @@ due-placed j e w a b h =
 report-append : (j : List Entry) (e : Entry) (w r : ℕ) → r ≤ length j → isReport j w r ≡ true → isReport (j ++ (e ∷ [])) w r ≡ true
 report-append j e w r h is = ap (λ b. eqb r 0 || b) (isFor-append j e w r h) ∙ is
 
-queues-append : (j : List Entry) (e : Entry) (c w : ℕ) (v : WindowView) (s : State) → c ≤ length j → Queues j c w v s → Queues (j ++ (e ∷ [])) c w v s
+queues-append : (j : List Entry) (e : Entry) (c w : ℕ) (v : WindowView) (s : Condition) → c ≤ length j → Queues j c w v s → Queues (j ++ (e ∷ [])) c w v s
 queues-append j e c w v normal h is = is ∙ sym (due-append j e w (v .sent) c h)
 queues-append j e c w v (fetching n end) h is = record {
   behind = is .behind;
@@ -127,7 +128,7 @@ queues-append j e c w v (completed end) h is = record {
 }
 queues-append j e c w v suspended h is = is
 
-pub keep-append : (j : List Entry) (e : Entry) (c w : ℕ) (p : Place) → c ≤ length j → Inv j c w p → Inv (j ++ (e ∷ [])) c w p
+pub keep-append : (j : List Entry) (e : Entry) (c w : ℕ) (p : Side) → c ≤ length j → Inv j c w p → Inv (j ++ (e ∷ [])) c w p
 keep-append j e c w p h inv = record {
   ackedLast = inv .ackedLast;
   lastSent = inv .lastSent;
@@ -142,5 +143,5 @@ keep-append j e c w p h inv = record {
   batchesIs = inv .batchesIs;
   busySent = inv .busySent;
   notAhead = inv .notAhead;
-  queues = queues-append j e c w (p .view) (p .view .state) h (inv .queues);
+  queues = queues-append j e c w (p .view) (p .view .condition) h (inv .queues);
 }

@@ -9,21 +9,22 @@ use lib.ListN.{length, length-map}
 use lib.Dec.{eqb}
 use Rattle.journal.specs.declared.Entry.{Entry}
 use Rattle.journal.specs.Entry.{placedAt}
-use Rattle.journal.specs.Due.{due, Rising, due-split, due-length, Begins, due-cons, rising-append, rising-widen}
-use Rattle.window.specs.declared.Record.{Record}
-use Rattle.window.specs.Record.{newRecord, takeEntry, takeAll}
-use Rattle.window.specs.Laws.{takeNumbers-placed, takeEntry-answers, takeEntry-last, takeAll-snoc, takeAll-new-count}
+use Rattle.journal.specs.Due.{due, due-split, due-length, Begins, due-cons}
+use Rattle.lists.specs.Rising.{Rising, rising-append, rising-widen}
+use Rattle.record.specs.declared.Record.{Record}
+use Rattle.record.specs.Record.{newRecord, takeEntry, takeAll}
+use Rattle.record.specs.Laws.{takeNumbers-placed, takeEntry-answers, takeEntry-last, takeAll-snoc, takeAll-new-count}
 use Rattle.rules.specs.declared.Term.{Term}
-use Rattle.rules.specs.View.{State, normal, fetching, completed, suspended, WindowView}
+use Rattle.rules.specs.View.{Condition, normal, fetching, completed, suspended, WindowView}
 use Rattle.rules.specs.Shape.{isEmpty}
 use Rattle.rules.specs.Window.{isSuspended, isReport, freed, struck, acknowledged}
 use Rattle.rules.specs.Offers.{struck-front, WrittenOff, AckTaken}
-use Rattle.delivery.specs.World.{Sent, Ack, Place, withView, withLines, takeFront}
+use Rattle.delivery.specs.World.{Sent, Ack, Side, withView, withLines, takeFront}
 use Rattle.delivery.specs.Invariant.{Inv, Queues, lastOf, backIndices, lineEntries, endsOf, LineTerms, BackTerms}
 use Rattle.delivery.specs.Lines.{backTerms-append}
 
 -- queues that are the same in another view of a window that is not Suspended
-pub queues-copy : (j : List Entry) (c w : ℕ) (v v′ : WindowView) (s : State) → isSuspended s ≡ false → v′ .sent ≡ v .sent →
+pub queues-copy : (j : List Entry) (c w : ℕ) (v v′ : WindowView) (s : Condition) → isSuspended s ≡ false → v′ .sent ≡ v .sent →
     v′ .normalQueue ≡ v .normalQueue → v′ .catchQueue ≡ v .catchQueue → Queues j c w v s → Queues j c w v′ s
 queues-copy j c w v v′ normal here sent n q is = n ∙ is ∙ ap (λ a. due j w a c) (sym sent)
 queues-copy j c w v v′ (fetching k e) here sent n q is = record {
@@ -45,7 +46,7 @@ queues-copy j c w v v′ suspended here sent n q is = absurd (true≢false here)
 -- ------------------------------------------------------------------------
 -- Written
 
-pub keep-written : (j : List Entry) (c w : ℕ) (p : Place) → Inv j c w p → (t : Term) → WrittenOff t (p .view) → Inv j c w (withView (freed (p .view)) p)
+pub keep-written : (j : List Entry) (c w : ℕ) (p : Side) → Inv j c w p → (t : Term) → WrittenOff t (p .view) → Inv j c w (withView (freed (p .view)) p)
 keep-written j c w p inv t off = record {
   ackedLast = inv .ackedLast;
   lastSent = inv .lastSent;
@@ -60,14 +61,14 @@ keep-written j c w p inv t off = record {
   batchesIs = inv .batchesIs;
   busySent = λ h. absurd (true≢false (sym h));
   notAhead = inv .notAhead;
-  queues = queues-copy j c w (p .view) (freed (p .view)) (p .view .state) (off .here) refl refl refl (inv .queues);
+  queues = queues-copy j c w (p .view) (freed (p .view)) (p .view .condition) (off .here) refl refl refl (inv .queues);
 }
 
 -- ------------------------------------------------------------------------
 -- Ack
 
 -- the front ack is the oldest batch
-pub keep-ack : (j : List Entry) (c w : ℕ) (p : Place) → Inv j c w p → (a : Ack) (rest : List Ack) → p .back ≡ a ∷ rest →
+pub keep-ack : (j : List Entry) (c w : ℕ) (p : Side) → Inv j c w p → (a : Ack) (rest : List Ack) → p .back ≡ a ∷ rest →
     AckTaken (a .term) (a .index) (p .view) → Inv j c w (withLines (p .line) rest (withView (acknowledged (a .index) (p .view)) p))
 keep-ack j c w p inv a rest e taken =
     let rises : Rising (p .view .acked) (backIndices (a ∷ rest)) (lastOf p) = subst (λ b. Rising (p .view .acked) (backIndices b) (lastOf p)) e (inv .backRises) in
@@ -90,7 +91,7 @@ keep-ack j c w p inv a rest e taken =
       notAhead = λ h.
           ⊎-elim (λ (l : p .view .sent ≤ c). inl l) (λ (l : p .view .acked ≡ p .view .sent). absurd (omega (arith, rises .0, rises .1, inv .lastSent)))
           (inv .notAhead (taken .here));
-      queues = queues-copy j c w (p .view) (acknowledged (a .index) (p .view)) (p .view .state) (taken .here) refl refl refl (inv .queues);
+      queues = queues-copy j c w (p .view) (acknowledged (a .index) (p .view)) (p .view .condition) (taken .here) refl refl refl (inv .queues);
     }
 
 -- ------------------------------------------------------------------------
@@ -100,7 +101,7 @@ keep-ack j c w p inv a rest e taken =
 abbrev pub ackedBack : Bool → Sent → List Ack → List Ack
 ackedBack b s back = cond b (back ++ (record { term = s .term; index = s .placed .index } ∷ [])) back
 
-module _ (j : List Entry) (c w : ℕ) (p : Place) (inv : Inv j c w p) (few : length j ≤ 65535) (s : Sent) (rest : List Sent) (e : p .line ≡ s ∷ rest) where
+module _ (j : List Entry) (c w : ℕ) (p : Side) (inv : Inv j c w p) (few : length j ≤ 65535) (s : Sent) (rest : List Sent) (e : p .line ≡ s ∷ rest) where
   -- the count is far from its end
   count-small : p .record′ .count < 4294967295
   count-small =
@@ -158,7 +159,7 @@ module _ (j : List Entry) (c w : ℕ) (p : Place) (inv : Inv j c w p) (few : len
   unfolding endsOf
   ends-after b h = ap endsOf e ∙ ap (λ b. cond b (s .placed .index ∷ endsOf rest) (endsOf rest)) h
 
-  batches-after : (b : Bool) → s .ends ≡ b → isSuspended (p .view .state) ≡ false → p .view .batches ≡ backIndices (ackedBack b s (p .back)) ++ endsOf rest
+  batches-after : (b : Bool) → s .ends ≡ b → isSuspended (p .view .condition) ≡ false → p .view .batches ≡ backIndices (ackedBack b s (p .back)) ++ endsOf rest
   batches-after true h here =
       inv .batchesIs here
       ∙ ap (λ l. backIndices (p .back) ++ l) (ends-after true h)
@@ -166,7 +167,7 @@ module _ (j : List Entry) (c w : ℕ) (p : Place) (inv : Inv j c w p) (few : len
       ∙ ap (λ l. l ++ endsOf rest) (sym (map-append (λ a. a .index) (p .back) (record { term = s .term; index = s .placed .index } ∷ [])))
   batches-after false h here = inv .batchesIs here ∙ ap (λ l. backIndices (p .back) ++ l) (ends-after false h)
 
-  -- the place after the step, with the record that it makes
+  -- the side after the step, with the record that it makes
   after : (r : Record) → r .last .0 ≡ front .index → r ≡ takeAll (p .taken ++ (s .placed ∷ [])) newRecord → Inv j c w (record {
     view = p .view;
     record′ = r;
@@ -199,8 +200,8 @@ module _ (j : List Entry) (c w : ℕ) (p : Place) (inv : Inv j c w p) (few : len
   entry-answer : takeEntry (s .placed) (p .record′) .number ≡ 0
   entry-answer = ap (λ o. o .number) (takeEntry-answers (s .placed) (p .record′) count-small)
 
-  -- the place after the Take
-  pub take-place : takeFront s rest p ≡ record {
+  -- the side after the Take
+  pub take-side : takeFront s rest p ≡ record {
     view = p .view;
     record′ = takeEntry (s .placed) (p .record′) .record′;
     line = rest;
@@ -208,14 +209,14 @@ module _ (j : List Entry) (c w : ℕ) (p : Place) (inv : Inv j c w p) (few : len
     taken = p .taken ++ (s .placed ∷ []);
   }
   unfolding takeFront
-  take-place = simp (takeNumbers-placed, entry-answer)
+  take-side = simp (takeNumbers-placed, entry-answer)
 
   -- last is then the first index that was due
   pub take-last : lastOf (takeFront s rest p) ≡ front .index
-  take-last = ap lastOf take-place ∙ takeEntry-last (s .placed) (p .record′) count-small ∙ index-is
+  take-last = ap lastOf take-side ∙ takeEntry-last (s .placed) (p .record′) count-small ∙ index-is
 
   pub keep-take : Inv j c w (takeFront s rest p)
   keep-take =
-      subst⁻¹ (Inv j c w) take-place
+      subst⁻¹ (Inv j c w) take-side
       (after (takeEntry (s .placed) (p .record′) .record′) (takeEntry-last (s .placed) (p .record′) count-small ∙ index-is)
       (ap (λ r. takeEntry (s .placed) r .record′) (inv .recordIs) ∙ sym (takeAll-snoc (p .taken) (s .placed) newRecord)))

@@ -10,16 +10,16 @@ use borrow.Author.Tests.{lt-ltb, le-ltb}
 use lib.ListN.{length}
 use Rattle.journal.specs.declared.Entry.{Entry}
 use Rattle.journal.specs.Entry.{isFor}
-use Rattle.journal.specs.Cases.{true-or-false, le-or-lt}
+use Rattle.lists.specs.Cases.{true-or-false, le-or-lt}
 use Rattle.journal.specs.Due.{due, due-empty, due-more}
-use Rattle.rules.specs.View.{State, normal, fetching, completed, suspended, WindowView}
+use Rattle.rules.specs.View.{Condition, normal, fetching, completed, suspended, WindowView}
 use Rattle.rules.specs.Window.{isSuspended, requeue, wanted, mainAt}
 use Rattle.rules.specs.Offers.{requeue-same, mainAt-other, mainAt-suspended, mainAt-room, mainAt-normal, mainAt-fetching, mainAt-completed}
-use Rattle.delivery.specs.World.{Place, withView}
+use Rattle.delivery.specs.World.{Side, withView}
 use Rattle.delivery.specs.Invariant.{Inv, Queues, FetchingQueues, CompletedQueues}
 
 -- a window whose queues and condition alone change, while `current` may move on
-pub inv-requeue : (j : List Entry) (c c′ w : ℕ) (p : Place) (n q : List ℕ) (s : State) → Inv j c w p → isSuspended (p .view .state) ≡ false →
+pub inv-requeue : (j : List Entry) (c c′ w : ℕ) (p : Side) (n q : List ℕ) (s : Condition) → Inv j c w p → isSuspended (p .view .condition) ≡ false →
     (p .view .sent ≤ c′) ⊎ (p .view .acked ≡ p .view .sent) → Queues j c′ w (requeue n q s (p .view)) s → Inv j c′ w (withView (requeue n q s (p .view)) p)
 inv-requeue j c c′ w p n q s inv here ahead queues = record {
   ackedLast = inv .ackedLast;
@@ -39,7 +39,7 @@ inv-requeue j c c′ w p n q s inv here ahead queues = record {
 }
 
 -- a Suspended window, while `current` moves on
-pub inv-away : (j : List Entry) (c c′ w : ℕ) (p : Place) → Inv j c w p → p .view .state ≡ suspended → Inv j c′ w p
+pub inv-away : (j : List Entry) (c c′ w : ℕ) (p : Side) → Inv j c w p → p .view .condition ≡ suspended → Inv j c′ w p
 inv-away j c c′ w p inv e = record {
   ackedLast = inv .ackedLast;
   lastSent = inv .lastSent;
@@ -71,12 +71,12 @@ due-other j w a c other =
 wanted-own : (j : List Entry) (w c : ℕ) (v : WindowView) (b : Bool) → v .acked ≤ c → isFor j w (suc c) ≡ b → wanted j w (suc c) v ≡ b
 wanted-own j w c v b h e = simp (lt-ltb (v .acked) (suc c) (omega arith), e, and-true)
 
-abbrev Kept : List Entry → ℕ → ℕ → Place → Type 0
+abbrev Kept : List Entry → ℕ → ℕ → Side → Type 0
 Kept j c w p = Inv j (suc c) w (withView (mainAt j w (suc c) (p .view)) p)
 
-module _ (j : List Entry) (c w : ℕ) (p : Place) (inv : Inv j c w p) where
+module _ (j : List Entry) (c w : ℕ) (p : Side) (inv : Inv j c w p) where
   -- the way to the result: what Main makes of the window's queues and condition, and that these are as they should be
-  by-law : (n q : List ℕ) (s : State) → isSuspended (p .view .state) ≡ false → (p .view .sent ≤ suc c) ⊎ (p .view .acked ≡ p .view .sent) →
+  by-law : (n q : List ℕ) (s : Condition) → isSuspended (p .view .condition) ≡ false → (p .view .sent ≤ suc c) ⊎ (p .view .acked ≡ p .view .sent) →
       mainAt j w (suc c) (p .view) ≡ requeue n q s (p .view) → Queues j (suc c) w (requeue n q s (p .view)) s → Kept j c w p
   by-law n q s here ahead law queues = subst⁻¹ (λ x. Inv j (suc c) w (withView x p)) law (inv-requeue j c (suc c) w p n q s inv here ahead queues)
 
@@ -84,7 +84,7 @@ module _ (j : List Entry) (c w : ℕ) (p : Place) (inv : Inv j c w p) where
   acked-sent = omega (arith, inv .ackedLast, inv .lastSent)
 
   -- with room, the index joins the normal queue; not being the window's, it does not. Either way the queue goes on from where it began
-  joins : (s : State) (base : ℕ) → p .view .state ≡ s → isSuspended s ≡ false → base ≤ c → p .view .acked ≤ c → p .view .sent ≤ c →
+  joins : (s : Condition) (base : ℕ) → p .view .condition ≡ s → isSuspended s ≡ false → base ≤ c → p .view .acked ≤ c → p .view .sent ≤ c →
       p .view .normalQueue ≡ due j w base c →
       ((n : List ℕ) → n ≡ due j w base (suc c) → Queues j (suc c) w (requeue n (p .view .catchQueue) s (p .view)) s) →
       (isFor j w (suc c) ≡ true → 128 ≤ length (p .view .normalQueue) → Kept j c w p) → Kept j c w p
@@ -104,7 +104,7 @@ module _ (j : List Entry) (c w : ℕ) (p : Place) (inv : Inv j c w p) where
       (queues (p .view .normalQueue) (is ∙ sym (due-other j w base c other))))
       (true-or-false (isFor j w (suc c)))
 
-  keep-normal : p .view .state ≡ normal → Kept j c w p
+  keep-normal : p .view .condition ≡ normal → Kept j c w p
   keep-normal e =
       let q : p .view .normalQueue ≡ due j w (p .view .sent) c = subst (Queues j c w (p .view)) e (inv .queues) in
       ⊎-elim
@@ -128,7 +128,7 @@ module _ (j : List Entry) (c w : ℕ) (p : Place) (inv : Inv j c w p) where
       (q ∙ due-empty j w (p .view .sent) c (omega arith) ∙ sym (due-empty j w (p .view .sent) (suc c) (omega arith))))
       (le-or-lt (p .view .sent) c)
 
-  keep-fetching : (n end : ℕ) → p .view .state ≡ fetching n end → Kept j c w p
+  keep-fetching : (n end : ℕ) → p .view .condition ≡ fetching n end → Kept j c w p
   keep-fetching n end e =
       let q : FetchingQueues j c w (p .view) n end = subst (Queues j c w (p .view)) e (inv .queues) in
       let sent : p .view .sent ≤ c = omega (arith, q .behind, q .order, q .read) in
@@ -145,7 +145,7 @@ module _ (j : List Entry) (c w : ℕ) (p : Place) (inv : Inv j c w p) where
         normalIs = sym (due-empty j w (suc c) (suc c) (le-refl (suc c)));
       }))
 
-  keep-completed : (end : ℕ) → p .view .state ≡ completed end → Kept j c w p
+  keep-completed : (end : ℕ) → p .view .condition ≡ completed end → Kept j c w p
   keep-completed end e =
       let q : CompletedQueues j c w (p .view) end = subst (Queues j c w (p .view)) e (inv .queues) in
       let sent : p .view .sent ≤ c = omega (arith, q .behind, q .read) in
@@ -162,7 +162,7 @@ module _ (j : List Entry) (c w : ℕ) (p : Place) (inv : Inv j c w p) where
         normalIs = sym (due-empty j w (suc c) (suc c) (le-refl (suc c)));
       }))
 
-  keep-in : (s : State) → p .view .state ≡ s → Kept j c w p
+  keep-in : (s : Condition) → p .view .condition ≡ s → Kept j c w p
   keep-in normal e = keep-normal e
   keep-in (fetching n end) e = keep-fetching n end e
   keep-in (completed end) e = keep-completed end e
@@ -170,4 +170,4 @@ module _ (j : List Entry) (c w : ℕ) (p : Place) (inv : Inv j c w p) where
       subst⁻¹ (λ x. Inv j (suc c) w (withView x p)) (mainAt-suspended j w (suc c) (p .view) e) (inv-away j c (suc c) w p inv e)
 
   pub keep-main : Inv j (suc c) w (withView (mainAt j w (suc c) (p .view)) p)
-  keep-main = keep-in (p .view .state) refl
+  keep-main = keep-in (p .view .condition) refl

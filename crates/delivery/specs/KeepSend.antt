@@ -9,23 +9,24 @@ use native.Mathlib.Nat.{le-refl}
 use lib.ListN.{length, take, drop, take-append-drop}
 use Rattle.journal.specs.declared.Entry.{Entry}
 use Rattle.journal.specs.Entry.{placedAt}
-use Rattle.journal.specs.Cases.{le-or-lt}
-use Rattle.journal.specs.Due.{due, lastOr, due-empty, due-split, Cut, due-cut}
-use Rattle.rules.specs.View.{State, normal, fetching, completed, suspended, WindowView}
+use Rattle.lists.specs.Cases.{le-or-lt}
+use Rattle.journal.specs.Due.{due, due-empty, due-split, Cut, due-cut}
+use Rattle.lists.specs.Elem.{lastOr}
+use Rattle.rules.specs.View.{Condition, normal, fetching, completed, suspended, WindowView}
 use Rattle.rules.specs.Shape.{isEmpty}
 use Rattle.rules.specs.Window.{isSuspended, requeue, Batch, batchOf, launched}
 use Rattle.rules.specs.Offers.{requeue-same, isEmpty-some, isEmpty-drop, batchOf-normal, batchOf-fetching, batchOf-more, batchOf-all, launched-is, SentOut}
-use Rattle.delivery.specs.World.{Place, withView, withLines, onLine}
+use Rattle.delivery.specs.World.{Side, withView, withLines, onLine}
 use Rattle.delivery.specs.Invariant.{Inv, Queues, FetchingQueues, CompletedQueues, lastOf, backIndices, endsOf}
 use Rattle.delivery.specs.Lines.{lastOr-some, lineTerms-append, endsOf-append, onLine-entries, onLine-terms, onLine-ends}
 
--- the place after a batch: the window as Send leaves it, and the batch on the line
-abbrev pub launchedPlace : List Entry → Batch → Place → Place
-launchedPlace j b p = withLines (p .line ++ onLine j (p .view .term) (b .indices)) (p .back) (withView (launched b) p)
+-- the side after a batch: the window as Send leaves it, and the batch on the line
+abbrev pub launchedSide : List Entry → Batch → Side → Side
+launchedSide j b p = withLines (p .line ++ onLine j (p .view .term) (b .indices)) (p .back) (withView (launched b) p)
 
 -- what Send keeps, and that it sends something
-pub record Launched (j : List Entry) (c w : ℕ) (b : Batch) (p : Place) : Type 0 where
-  pub inv : Inv j c w (launchedPlace j b p)
+pub record Launched (j : List Entry) (c w : ℕ) (b : Batch) (p : Side) : Type 0 where
+  pub inv : Inv j c w (launchedSide j b p)
   pub up : p .view .sent < lastOr 0 (b .indices)
 
 -- something is due only above
@@ -37,9 +38,9 @@ isEmpty-append : (xs ys : List ℕ) → isEmpty xs ≡ false → isEmpty (xs ++ 
 isEmpty-append [] ys e = absurd (true≢false e)
 isEmpty-append (x ∷ xs) ys e = refl
 
-module _ (j : List Entry) (c w : ℕ) (p : Place) (inv : Inv j c w p) (here : isSuspended (p .view .state) ≡ false) (read : c ≤ length j) where
+module _ (j : List Entry) (c w : ℕ) (p : Side) (inv : Inv j c w p) (here : isSuspended (p .view .condition) ≡ false) (read : c ≤ length j) where
   -- a batch that is the first part of what is due up to b, with queues that hold what is due after it
-  launch : (b : ℕ) (xs ys n q : List ℕ) (s : State) → b ≤ c → isEmpty xs ≡ false → due j w (p .view .sent) b ≡ xs ++ ys →
+  launch : (b : ℕ) (xs ys n q : List ℕ) (s : Condition) → b ≤ c → isEmpty xs ≡ false → due j w (p .view .sent) b ≡ xs ++ ys →
       ((l : ℕ) → p .view .sent ≤ l → l ≤ b → due j w l b ≡ ys → (v : WindowView) → v .sent ≡ l → v .normalQueue ≡ n → v .catchQueue ≡ q → Queues j c w v s) →
       Launched j c w (record { indices = xs; rest = requeue n q s (p .view) }) p
   launch b xs ys n q s k some split queues =
@@ -81,14 +82,14 @@ module _ (j : List Entry) (c w : ℕ) (p : Place) (inv : Inv j c w p) (here : is
             });
       }
 
-  by-law : (limit : ℕ) (s : State) (b : Batch) → p .view .state ≡ s →
+  by-law : (limit : ℕ) (s : Condition) (b : Batch) → p .view .condition ≡ s →
       batchOf limit (requeue (p .view .normalQueue) (p .view .catchQueue) s (p .view)) ≡ b → isEmpty (batchOf limit (p .view) .indices) ≡ false →
       (isEmpty (b .indices) ≡ false → Launched j c w b p) → Launched j c w (batchOf limit (p .view)) p
   by-law limit s b e law some keep =
       let same-batch : batchOf limit (p .view) ≡ b = ap (batchOf limit) (requeue-same (p .view) s e) ∙ law in
       subst⁻¹ (λ x. Launched j c w x p) same-batch (keep (sym (ap (λ x. isEmpty (x .indices)) same-batch) ∙ some))
 
-  keep-in : (limit : ℕ) (s : State) → p .view .state ≡ s → isEmpty (batchOf limit (p .view) .indices) ≡ false →
+  keep-in : (limit : ℕ) (s : Condition) → p .view .condition ≡ s → isEmpty (batchOf limit (p .view) .indices) ≡ false →
       Launched j c w (batchOf limit (p .view)) p
   keep-in limit normal e some =
       let is : p .view .normalQueue ≡ due j w (p .view .sent) c = subst (Queues j c w (p .view)) e (inv .queues) in
@@ -144,4 +145,4 @@ module _ (j : List Entry) (c w : ℕ) (p : Place) (inv : Inv j c w p) (here : is
   keep-in limit suspended e some = absurd (true≢false (sym (ap isSuspended e) ∙ here))
 
   pub keep-send : (limit size : ℕ) → SentOut limit size (p .view) → Launched j c w (batchOf limit (p .view)) p
-  keep-send limit size out = keep-in limit (p .view .state) refl (out .some)
+  keep-send limit size out = keep-in limit (p .view .condition) refl (out .some)

@@ -5,7 +5,7 @@ use mathlib.Core.List.{List, [], _∷_, _++_, map}
 use mathlib.Core.Bool.{Bool, true, false, cond, true≢false}
 use Rattle.journal.specs.declared.Entry.{Entry}
 use Rattle.journal.specs.Entry.{placedAt}
-use Rattle.journal.specs.Due.{lastOr}
+use Rattle.lists.specs.Elem.{lastOr}
 use Rattle.rules.specs.declared.Term.{Term}
 use Rattle.rules.specs.Shape.{isEmpty}
 use Rattle.delivery.specs.World.{Sent, Ack, onLine}

@@ -9,18 +9,18 @@ use lib.ListN.{length}
 use lib.Dec.{eqb, leb}
 use borrow.Author.Tests.{leb-true}
 use Rattle.journal.specs.declared.Entry.{Entry}
-use Rattle.journal.specs.Cases.{eq-or-ne, and-right}
+use Rattle.lists.specs.Cases.{eq-or-ne, and-right}
 use Rattle.journal.specs.Entry.{numbersOf, countOf}
 use Rattle.rules.specs.Shape.{shape}
-use Rattle.rules.specs.Offers.{shaped, append-keeps}
-use Rattle.delivery.specs.World.{Place, World, placeAt, numbersIn, playerIn, withPlace, Step, step, run}
+use Rattle.rules.specs.Offers.{shaped, append-shaped}
+use Rattle.delivery.specs.World.{Side, World, sideAt, numbersIn, playerIn, withSide, Step, step, run}
 use Rattle.delivery.specs.Invariant.{Inv, Reached}
 use Rattle.delivery.specs.KeepMain.{keep-main}
 use Rattle.delivery.specs.KeepCatch.{keep-catch}
 use Rattle.delivery.specs.KeepSend.{keep-send}
 use Rattle.delivery.specs.KeepLine.{keep-written, keep-ack, keep-take}
 use Rattle.delivery.specs.KeepFault.{keep-drop, keep-join, keep-start, keep-append}
-use Rattle.delivery.specs.Worlds.{count-in, withPlace-here, withPlace-other, withPlace-count}
+use Rattle.delivery.specs.Worlds.{count-in, withSide-here, withSide-other, withSide-count}
 use Rattle.delivery.specs.Effects.{Worked, caught, sent, written, took, acked, Work, stays, mains, works, Restarted, Facts, working, dropping, joining, starting, appending}
 use Rattle.delivery.specs.SteppedAll.{step-facts}
 
@@ -37,9 +37,9 @@ few-in wd r =
     omega (arith, leb-true (countOf (numbersIn wd)) 65535 whole, count-in wd)
 
 -- ------------------------------------------------------------------------
--- one place
+-- one side
 
-pub keep-worked : (j : List Entry) (c limit w : ℕ) (p p′ : Place) → c ≤ length j → length j ≤ 65535 → Inv j c w p → Worked j limit w p p′ → Inv j c w p′
+pub keep-worked : (j : List Entry) (c limit w : ℕ) (p p′ : Side) → c ≤ length j → length j ≤ 65535 → Inv j c w p → Worked j limit w p p′ → Inv j c w p′
 keep-worked j c limit w p p′ read few inv (caught t i k e) = subst⁻¹ (Inv j c w) e (keep-catch j c w p inv t i k)
 keep-worked j c limit w p p′ read few inv (sent size out e) = subst⁻¹ (Inv j c w) e (keep-send j c w p inv (out .here) read limit size out .inv)
 keep-worked j c limit w p p′ read few inv (written t off e) = subst⁻¹ (Inv j c w) e (keep-written j c w p inv t off)
@@ -47,9 +47,9 @@ keep-worked j c limit w p p′ read few inv (took s rest front e) = subst⁻¹ (
 keep-worked j c limit w p p′ read few inv (acked a rest front taken e) = subst⁻¹ (Inv j c w) e (keep-ack j c w p inv a rest front taken)
 
 -- ------------------------------------------------------------------------
--- one place of a world replaced
+-- one side of a world replaced
 
-replaced : (wd wd′ : World) (w : ℕ) (p′ : Place) → Reached wd → w < length (wd .places) → wd′ ≡ withPlace w p′ wd →
+replaced : (wd wd′ : World) (w : ℕ) (p′ : Side) → Reached wd → w < length (wd .sides) → wd′ ≡ withSide w p′ wd →
     shape (numbersIn wd′) (playerIn wd′) ≡ true → Inv (wd .journal) (wd .current) w p′ → Reached wd′
 replaced wd wd′ w p′ r h e s inv =
     subst⁻¹ Reached e
@@ -58,10 +58,10 @@ replaced wd wd′ w p′ r h e s inv =
       each = λ v k.
           ⊎-elim
           (λ (same : v ≡ w).
-          subst⁻¹ (λ v. Inv (wd .journal) (wd .current) v (placeAt v (withPlace w p′ wd))) same
-          (subst⁻¹ (Inv (wd .journal) (wd .current) w) (withPlace-here w p′ wd h) inv))
+          subst⁻¹ (λ v. Inv (wd .journal) (wd .current) v (sideAt v (withSide w p′ wd))) same
+          (subst⁻¹ (Inv (wd .journal) (wd .current) w) (withSide-here w p′ wd h) inv))
           (λ (other : v ≡ w → ⊥).
-          subst⁻¹ (Inv (wd .journal) (wd .current) v) (withPlace-other w v p′ wd other) (r .each v (omega (arith, withPlace-count w p′ wd))))
+          subst⁻¹ (Inv (wd .journal) (wd .current) v) (withSide-other w v p′ wd other) (r .each v (omega (arith, withSide-count w p′ wd))))
           (eq-or-ne v w);
     })
 
@@ -73,22 +73,22 @@ reached-work wd wd′ r (stays e) = subst⁻¹ Reached e r
 reached-work wd wd′ r (mains m) = record {
   inShape = m .shaped;
   each = λ w h.
-      let h′ : w < length (wd .places) = omega (arith, m .count) in
-      subst⁻¹ (λ j. Inv j (wd′ .current) w (placeAt w wd′)) (m .journal)
-      (subst⁻¹ (λ c. Inv (wd .journal) c w (placeAt w wd′)) (m .current)
-      (subst⁻¹ (Inv (wd .journal) (suc (wd .current)) w) (m .each w h′) (keep-main (wd .journal) (wd .current) w (placeAt w wd) (r .each w h′))));
+      let h′ : w < length (wd .sides) = omega (arith, m .count) in
+      subst⁻¹ (λ j. Inv j (wd′ .current) w (sideAt w wd′)) (m .journal)
+      (subst⁻¹ (λ c. Inv (wd .journal) c w (sideAt w wd′)) (m .current)
+      (subst⁻¹ (Inv (wd .journal) (suc (wd .current)) w) (m .each w h′) (keep-main (wd .journal) (wd .current) w (sideAt w wd) (r .each w h′))));
 }
 reached-work wd wd′ r (works w h p′ work e s) =
-    replaced wd wd′ w p′ r h e s (keep-worked (wd .journal) (wd .current) (wd .limit) w (placeAt w wd) p′ (read-in wd r) (few-in wd r) (r .each w h) work)
+    replaced wd wd′ w p′ r h e s (keep-worked (wd .journal) (wd .current) (wd .limit) w (sideAt w wd) p′ (read-in wd r) (few-in wd r) (r .each w h) work)
 
 reached-restart : (wd wd′ : World) → Reached wd → Restarted wd wd′ → Reached wd′
 reached-restart wd wd′ r m = record {
   inShape = m .shaped;
   each = λ w h.
-      let h′ : w < length (wd .places) = omega (arith, m .count) in
-      subst⁻¹ (λ j. Inv j (wd′ .current) w (placeAt w wd′)) (m .journal)
+      let h′ : w < length (wd .sides) = omega (arith, m .count) in
+      subst⁻¹ (λ j. Inv j (wd′ .current) w (sideAt w wd′)) (m .journal)
       (subst⁻¹ (Inv (wd .journal) (wd′ .current) w) (m .each w h′)
-      (keep-start (wd .journal) (wd .current) (wd′ .current) w (placeAt w wd) (r .each w h′) (m .least w h′)));
+      (keep-start (wd .journal) (wd .current) (wd′ .current) w (sideAt w wd) (r .each w h′) (m .least w h′)));
 }
 
 numbersOf-append : (j : List Entry) (e : Entry) → numbersOf (j ++ (e ∷ [])) ≡ numbersOf j ++ numbersOf (e ∷ [])
@@ -97,14 +97,14 @@ numbersOf-append [] e = refl
 numbersOf-append (x ∷ j) e = ap (λ l. x .set ∷ x .kind ∷ x .race ∷ x .value ∷ l) (numbersOf-append j e)
 
 reached-append : (wd wd′ : World) (e : Entry) → Reached wd → length (wd .journal) < 65535 →
-    wd′ ≡ record { journal = wd .journal ++ (e ∷ []); limit = wd .limit; current = wd .current; places = wd .places } → Reached wd′
+    wd′ ≡ record { journal = wd .journal ++ (e ∷ []); limit = wd .limit; current = wd .current; sides = wd .sides } → Reached wd′
 reached-append wd wd′ e r h is =
     subst⁻¹ Reached is
     (record {
       inShape =
           ap (λ ns. shape ns (playerIn wd)) (numbersOf-append (wd .journal) e)
-          ∙ append-keeps (numbersIn wd) e (playerIn wd) (r .inShape) (omega (arith, count-in wd));
-      each = λ w k. keep-append (wd .journal) e (wd .current) w (placeAt w wd) (read-in wd r) (r .each w k);
+          ∙ append-shaped (numbersIn wd) e (playerIn wd) (r .inShape) (omega (arith, count-in wd));
+      each = λ w k. keep-append (wd .journal) e (wd .current) w (sideAt w wd) (read-in wd r) (r .each w k);
     })
 
 pub reached-step : (wd : World) (s : Step) → Reached wd → Reached (step s wd .world)
@@ -112,8 +112,8 @@ reached-step wd s r = by (step-facts wd (r .inShape) s)
   where
     by : Facts s wd → Reached (step s wd .world)
     by (working quiet work) = reached-work wd _ r work
-    by (dropping w is done h e sh) = replaced wd _ w _ r h e sh (keep-drop (wd .journal) (wd .current) w (placeAt w wd) (r .each w h))
-    by (joining w is done h away e sh) = replaced wd _ w _ r h e sh (keep-join (wd .journal) (wd .current) w (placeAt w wd) (r .each w h) away)
+    by (dropping w is done h e sh) = replaced wd _ w _ r h e sh (keep-drop (wd .journal) (wd .current) w (sideAt w wd) (r .each w h))
+    by (joining w is done h away e sh) = replaced wd _ w _ r h e sh (keep-join (wd .journal) (wd .current) w (sideAt w wd) (r .each w h) away)
     by (starting b is done m) = reached-restart wd _ r m
     by (appending e is done h same) = reached-append wd _ e r h same
 

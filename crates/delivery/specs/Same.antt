@@ -3,10 +3,10 @@ use mathlib.Core.List.{List, [], _∷_}
 use mathlib.Core.Bool.{Bool, true, false, not, _&&_}
 use lib.Dec.{eqb}
 use Rattle.journal.specs.declared.Entry.{Entry}
-use Rattle.window.specs.declared.Race.{Race}
-use Rattle.window.specs.declared.Record.{Record}
-use Rattle.rules.specs.View.{State, normal, fetching, completed, suspended, WindowView}
-use Rattle.delivery.specs.World.{Sent, Ack, Place, World}
+use Rattle.record.specs.declared.Race.{Race}
+use Rattle.record.specs.declared.Record.{Record}
+use Rattle.rules.specs.View.{Condition, normal, fetching, completed, suspended, WindowView}
+use Rattle.delivery.specs.World.{Sent, Ack, Side, World}
 
 abbrev pub sameBool : Bool → Bool → Bool
 sameBool true b = b
@@ -18,23 +18,23 @@ sameList f [] (b ∷ ys) = false
 sameList f (a ∷ xs) [] = false
 sameList f (a ∷ xs) (b ∷ ys) = f a b && sameList f xs ys
 
-abbrev pub sameState : State → State → Bool
-sameState normal normal = true
-sameState normal (fetching n e) = false
-sameState normal (completed e) = false
-sameState normal suspended = false
-sameState (fetching n e) normal = false
-sameState (fetching n e) (fetching m f) = eqb n m && eqb e f
-sameState (fetching n e) (completed f) = false
-sameState (fetching n e) suspended = false
-sameState (completed e) normal = false
-sameState (completed e) (fetching m f) = false
-sameState (completed e) (completed f) = eqb e f
-sameState (completed e) suspended = false
-sameState suspended normal = false
-sameState suspended (fetching n e) = false
-sameState suspended (completed e) = false
-sameState suspended suspended = true
+abbrev pub sameCondition : Condition → Condition → Bool
+sameCondition normal normal = true
+sameCondition normal (fetching n e) = false
+sameCondition normal (completed e) = false
+sameCondition normal suspended = false
+sameCondition (fetching n e) normal = false
+sameCondition (fetching n e) (fetching m f) = eqb n m && eqb e f
+sameCondition (fetching n e) (completed f) = false
+sameCondition (fetching n e) suspended = false
+sameCondition (completed e) normal = false
+sameCondition (completed e) (fetching m f) = false
+sameCondition (completed e) (completed f) = eqb e f
+sameCondition (completed e) suspended = false
+sameCondition suspended normal = false
+sameCondition suspended (fetching n e) = false
+sameCondition suspended (completed e) = false
+sameCondition suspended suspended = true
 
 unfoldable pub sameWindow : WindowView → WindowView → Bool
 sameWindow a b =
@@ -44,7 +44,7 @@ sameWindow a b =
     && (sameBool (a .busy) (b .busy)
     && (sameList eqb (a .batches) (b .batches)
     && (sameList eqb (a .normalQueue) (b .normalQueue)
-    && (sameList eqb (a .catchQueue) (b .catchQueue) && sameState (a .state) (b .state)))))))
+    && (sameList eqb (a .catchQueue) (b .catchQueue) && sameCondition (a .condition) (b .condition)))))))
 
 unfoldable pub sameRace : Race → Race → Bool
 sameRace a b = eqb (a .off) (b .off) && (eqb (a .price) (b .price) && sameBool (a .closed) (b .closed))
@@ -63,12 +63,12 @@ sameSent a b =
 unfoldable pub sameAck : Ack → Ack → Bool
 sameAck a b = eqb (a .term .0) (b .term .0) && eqb (a .index) (b .index)
 
--- a place but for the history of what was taken
-unfoldable pub samePlace : Place → Place → Bool
-samePlace a b =
+-- a side but for the history of what was taken
+unfoldable pub sameSide : Side → Side → Bool
+sameSide a b =
     sameWindow (a .view) (b .view)
     && (sameRecord (a .record′) (b .record′) && (sameList sameSent (a .line) (b .line) && sameList sameAck (a .back) (b .back)))
 
 -- the player's state, the records and the lines
 unfoldable pub sameWorld : World → World → Bool
-sameWorld a b = eqb (a .limit) (b .limit) && (eqb (a .current) (b .current) && sameList samePlace (a .places) (b .places))
+sameWorld a b = eqb (a .limit) (b .limit) && (eqb (a .current) (b .current) && sameList sameSide (a .sides) (b .sides))

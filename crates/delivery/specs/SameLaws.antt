@@ -6,10 +6,10 @@ use mathlib.Core.Bool.{Bool, true, false, false≢true}
 use borrow.Author.Tests.{eqb-true, eq-eqb}
 use lib.ListN.{getD}
 use lib.Dec.{eqb}
-use Rattle.journal.specs.Cases.{and-left, and-right, and-intro}
+use Rattle.lists.specs.Cases.{and-left, and-right, and-intro}
 use Rattle.rules.specs.View.{normal, fetching, completed, suspended}
-use Rattle.delivery.specs.World.{Place, World, noPlace, placeAt}
-use Rattle.delivery.specs.Same.{sameBool, sameList, sameState, sameWindow, sameRace, sameRecord, sameEntry, sameSent, sameAck, samePlace, sameWorld}
+use Rattle.delivery.specs.World.{Side, World, noSide, sideAt}
+use Rattle.delivery.specs.Same.{sameBool, sameList, sameCondition, sameWindow, sameRace, sameRecord, sameEntry, sameSent, sameAck, sameSide, sameWorld}
 
 -- a test that is true of equal things, and one that is true of no others
 abbrev Itself : {A : Type 0} → (A → A → Bool) → Type 0
@@ -49,29 +49,29 @@ sameList-equal f h (x ∷ xs) (y ∷ ys) e = ap₂ (λ a b. a ∷ b) (h x y (and
 -- ------------------------------------------------------------------------
 -- a window as the player holds it
 
-sameState-itself : Itself sameState
-sameState-itself normal = refl
-sameState-itself (fetching n e) = and-intro (eqb-itself n) (eqb-itself e)
-sameState-itself (completed e) = eqb-itself e
-sameState-itself suspended = refl
+sameCondition-itself : Itself sameCondition
+sameCondition-itself normal = refl
+sameCondition-itself (fetching n e) = and-intro (eqb-itself n) (eqb-itself e)
+sameCondition-itself (completed e) = eqb-itself e
+sameCondition-itself suspended = refl
 
-sameState-equal : Equal sameState
-sameState-equal normal normal h = refl
-sameState-equal normal (fetching n e) h = absurd (false≢true h)
-sameState-equal normal (completed e) h = absurd (false≢true h)
-sameState-equal normal suspended h = absurd (false≢true h)
-sameState-equal (fetching n e) normal h = absurd (false≢true h)
-sameState-equal (fetching n e) (fetching m f) h = ap₂ fetching (eqb-true n m (and-left _ _ h)) (eqb-true e f (and-right (eqb n m) _ h))
-sameState-equal (fetching n e) (completed f) h = absurd (false≢true h)
-sameState-equal (fetching n e) suspended h = absurd (false≢true h)
-sameState-equal (completed e) normal h = absurd (false≢true h)
-sameState-equal (completed e) (fetching m f) h = absurd (false≢true h)
-sameState-equal (completed e) (completed f) h = ap completed (eqb-true e f h)
-sameState-equal (completed e) suspended h = absurd (false≢true h)
-sameState-equal suspended normal h = absurd (false≢true h)
-sameState-equal suspended (fetching n e) h = absurd (false≢true h)
-sameState-equal suspended (completed e) h = absurd (false≢true h)
-sameState-equal suspended suspended h = refl
+sameCondition-equal : Equal sameCondition
+sameCondition-equal normal normal h = refl
+sameCondition-equal normal (fetching n e) h = absurd (false≢true h)
+sameCondition-equal normal (completed e) h = absurd (false≢true h)
+sameCondition-equal normal suspended h = absurd (false≢true h)
+sameCondition-equal (fetching n e) normal h = absurd (false≢true h)
+sameCondition-equal (fetching n e) (fetching m f) h = ap₂ fetching (eqb-true n m (and-left _ _ h)) (eqb-true e f (and-right (eqb n m) _ h))
+sameCondition-equal (fetching n e) (completed f) h = absurd (false≢true h)
+sameCondition-equal (fetching n e) suspended h = absurd (false≢true h)
+sameCondition-equal (completed e) normal h = absurd (false≢true h)
+sameCondition-equal (completed e) (fetching m f) h = absurd (false≢true h)
+sameCondition-equal (completed e) (completed f) h = ap completed (eqb-true e f h)
+sameCondition-equal (completed e) suspended h = absurd (false≢true h)
+sameCondition-equal suspended normal h = absurd (false≢true h)
+sameCondition-equal suspended (fetching n e) h = absurd (false≢true h)
+sameCondition-equal suspended (completed e) h = absurd (false≢true h)
+sameCondition-equal suspended suspended h = refl
 
 sameWindow-itself : Itself sameWindow
 unfolding sameWindow
@@ -82,7 +82,7 @@ sameWindow-itself v =
     (and-intro (sameBool-itself (v .busy))
     (and-intro (sameList-itself eqb eqb-itself (v .batches))
     (and-intro (sameList-itself eqb eqb-itself (v .normalQueue))
-    (and-intro (sameList-itself eqb eqb-itself (v .catchQueue)) (sameState-itself (v .state))))))))
+    (and-intro (sameList-itself eqb eqb-itself (v .catchQueue)) (sameCondition-itself (v .condition))))))))
 
 sameWindow-equal : Equal sameWindow
 unfolding sameWindow
@@ -101,7 +101,7 @@ sameWindow-equal a b h =
     let batches : a .batches ≡ b .batches = sameList-equal eqb eqb-true _ _ (and-left _ _ h4) in
     let queue : a .normalQueue ≡ b .normalQueue = sameList-equal eqb eqb-true _ _ (and-left _ _ h5) in
     let catch : a .catchQueue ≡ b .catchQueue = sameList-equal eqb eqb-true _ _ (and-left _ _ h6) in
-    let state : a .state ≡ b .state = sameState-equal _ _ h7 in
+    let condition : a .condition ≡ b .condition = sameCondition-equal _ _ h7 in
     λ i. record {
       term = record { 0 = term i };
       acked = acked i;
@@ -110,7 +110,7 @@ sameWindow-equal a b h =
       batches = batches i;
       normalQueue = queue i;
       catchQueue = catch i;
-      state = state i;
+      condition = condition i;
     }
 
 -- ------------------------------------------------------------------------
@@ -188,25 +188,25 @@ sameAck-equal a b h =
     λ i. record { term = record { 0 = term i }; index = index i }
 
 -- ------------------------------------------------------------------------
--- a place, a world
+-- a side, a world
 
-samePlace-itself : Itself samePlace
-unfolding samePlace
-samePlace-itself p =
+sameSide-itself : Itself sameSide
+unfolding sameSide
+sameSide-itself p =
     and-intro (sameWindow-itself (p .view))
     (and-intro (sameRecord-itself (p .record′))
     (and-intro (sameList-itself sameSent sameSent-itself (p .line)) (sameList-itself sameAck sameAck-itself (p .back))))
 
--- all of a place but the history of what was taken
-pub record PlaceIs (a b : Place) : Type 0 where
+-- all of a side but the history of what was taken
+pub record SideIs (a b : Side) : Type 0 where
   pub view : a .view ≡ b .view
   pub record′ : a .record′ ≡ b .record′
   pub line : a .line ≡ b .line
   pub back : a .back ≡ b .back
 
-pub samePlace-equal : (a b : Place) → samePlace a b ≡ true → PlaceIs a b
-unfolding samePlace
-samePlace-equal a b h =
+pub sameSide-equal : (a b : Side) → sameSide a b ≡ true → SideIs a b
+unfolding sameSide
+sameSide-equal a b h =
     let h1 = and-right (sameWindow (a .view) (b .view)) _ h in
     let h2 = and-right (sameRecord (a .record′) (b .record′)) _ h1 in
     record {
@@ -219,21 +219,21 @@ samePlace-equal a b h =
 pub sameWorld-itself : (wd : World) → sameWorld wd wd ≡ true
 unfolding sameWorld
 sameWorld-itself wd =
-    and-intro (eqb-itself (wd .limit)) (and-intro (eqb-itself (wd .current)) (sameList-itself samePlace samePlace-itself (wd .places)))
+    and-intro (eqb-itself (wd .limit)) (and-intro (eqb-itself (wd .current)) (sameList-itself sameSide sameSide-itself (wd .sides)))
 
-places-at : (a b : List Place) (w : ℕ) → sameList samePlace a b ≡ true → samePlace (getD a w noPlace) (getD b w noPlace) ≡ true
+sides-at : (a b : List Side) (w : ℕ) → sameList sameSide a b ≡ true → sameSide (getD a w noSide) (getD b w noSide) ≡ true
 unfolding sameList
-places-at [] [] w h = samePlace-itself noPlace
-places-at [] (y ∷ ys) w h = absurd (false≢true h)
-places-at (x ∷ xs) [] w h = absurd (false≢true h)
-places-at (x ∷ xs) (y ∷ ys) zero h = and-left _ _ h
-places-at (x ∷ xs) (y ∷ ys) (suc w) h = places-at xs ys w (and-right (samePlace x y) _ h)
+sides-at [] [] w h = sameSide-itself noSide
+sides-at [] (y ∷ ys) w h = absurd (false≢true h)
+sides-at (x ∷ xs) [] w h = absurd (false≢true h)
+sides-at (x ∷ xs) (y ∷ ys) zero h = and-left _ _ h
+sides-at (x ∷ xs) (y ∷ ys) (suc w) h = sides-at xs ys w (and-right (sameSide x y) _ h)
 
--- what looks the same has the same limit, the same `current`, and at each place the same window, record and lines
+-- what looks the same has the same limit, the same `current`, and at each side the same window, record and lines
 pub record WorldIs (a b : World) : Type 0 where
   pub limit : a .limit ≡ b .limit
   pub current : a .current ≡ b .current
-  pub places : (w : ℕ) → PlaceIs (placeAt w a) (placeAt w b)
+  pub sides : (w : ℕ) → SideIs (sideAt w a) (sideAt w b)
 
 pub sameWorld-equal : (a b : World) → sameWorld a b ≡ true → WorldIs a b
 unfolding sameWorld
@@ -242,6 +242,6 @@ sameWorld-equal a b h =
     record {
       limit = eqb-true _ _ (and-left _ _ h);
       current = eqb-true _ _ (and-left _ _ h1);
-      places = λ w.
-          samePlace-equal (placeAt w a) (placeAt w b) (places-at (a .places) (b .places) w (and-right (eqb (a .current) (b .current)) _ h1));
+      sides = λ w.
+          sameSide-equal (sideAt w a) (sideAt w b) (sides-at (a .sides) (b .sides) w (and-right (eqb (a .current) (b .current)) _ h1));
     }

@@ -8,10 +8,10 @@ use lib.Dec.{eqb}
 use Rattle.journal.specs.declared.Entry.{Entry}
 use Rattle.journal.specs.Entry.{numbersOf}
 use Rattle.journal.specs.Own.{own}
-use Rattle.window.specs.Record.{newRecord, takeAll}
+use Rattle.record.specs.Record.{newRecord, takeAll}
 use Rattle.rules.specs.View.{PlayerView}
 use Rattle.rules.specs.Rules.{Outcome, startRule}
-use Rattle.delivery.specs.World.{Place, World, placeAt, Step, main, catch, written, send, ack, late-ack, drop, join, start, append, Reply, answered, empty, unmade, step, run, opened}
+use Rattle.delivery.specs.World.{Side, World, sideAt, Step, main, catch, written, send, ack, late-ack, drop, join, start, append, Reply, answered, empty, unmade, step, run, opened}
 use Rattle.delivery.specs.World as W
 use Rattle.delivery.specs.Same.{sameWorld}
 
@@ -82,7 +82,7 @@ NoneCan wd = (s : Step) → isWork s ≡ true → sameWorld wd (step s wd .world
 
 -- What it has taken is the list of entries lent to its Takes that were answered 0. If these are k, the list equals the first k of its own
 -- entries, and the record equals what Take makes of a new record lent those k from the journal, one after another.
-pub record Leading (j : List Entry) (w : ℕ) (p : Place) : Type 0 where
+pub record Leading (j : List Entry) (w : ℕ) (p : Side) : Type 0 where
   pub k : ℕ
   pub list : p .taken ≡ take k (own j w)
   pub folded : p .record′ ≡ takeAll (take k (own j w)) newRecord
@@ -90,12 +90,12 @@ pub record Leading (j : List Entry) (w : ℕ) (p : Place) : Type 0 where
 -- the three results, for a world, a list of steps from it, and W windows
 pub record Delivers (count : ℕ) (wd : World) (steps : List Step) : Type 0 where
   -- every window has taken a leading part of its own entries, once each and in order
-  pub leading : (w : ℕ) → w < count → Leading (run wd steps .journal) w (placeAt w (run wd steps))
+  pub leading : (w : ℕ) → w < count → Leading (run wd steps .journal) w (sideAt w (run wd steps))
   -- with all windows joined, at most L × (1 + 5 × W) steps since the last fault or append changed anything
   pub bound : ((w : ℕ) → w < count → joinedAfter w true wd steps ≡ true) → changes 0 wd steps ≤ length (run wd steps .journal) * (1 + 5 * count)
   -- with all windows joined, when none can, every window has taken all of its own entries
   pub finish : ((w : ℕ) → w < count → joinedAfter w true wd steps ≡ true) → NoneCan (run wd steps) →
-      (w : ℕ) → w < count → placeAt w (run wd steps) .taken ≡ own (run wd steps .journal) w
+      (w : ℕ) → w < count → sideAt w (run wd steps) .taken ≡ own (run wd steps .journal) w
 
 -- The first Start: W windows, a batch limit, and from each window as its report a new record's last index; whatever the player held before.
 abbrev pub firstStart : PlayerView → List Entry → ℕ → ℕ → Outcome

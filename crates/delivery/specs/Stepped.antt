@@ -9,18 +9,18 @@ use borrow.Author.Tests.{eq-eqb, ne-eqb, lt-leb, ltb-true}
 use lib.ListN.{length}
 use lib.Dec.{ltb, leb}
 use Rattle.journal.specs.declared.Entry.{Entry}
-use Rattle.journal.specs.Cases.{eq-or-ne, true-or-false}
+use Rattle.lists.specs.Cases.{eq-or-ne, true-or-false}
 use Rattle.journal.specs.Entry.{entriesOf}
 use Rattle.rules.specs.declared.Term.{Term}
 use Rattle.rules.specs.View.{WindowView, PlayerView}
 use Rattle.rules.specs.Shape.{shape}
 use Rattle.rules.specs.Window.{wanted, fetched, freed, dropped}
 use Rattle.rules.specs.Rules.{Outcome, windowAt, withWindow, catchRule, writtenRule, ackRule, dropRule}
-use Rattle.rules.specs.Offers.{Caught, WrittenOff, Operated, catchRule-refuses, catchRule-done, writtenRule-refuses, writtenRule-done, ackRule-refuses, ackRule-done, dropRule-refuses, dropRule-done, catch-keeps, written-keeps, drop-keeps}
-use Rattle.delivery.specs.World.{Place, World, placeAt, numbersIn, playerIn, withView, withPlayer, withPlace, Step, catch, written, late-ack, drop, answered, called, calledThen, step}
+use Rattle.rules.specs.Offers.{Caught, WrittenOff, Operated, catchRule-refuses, catchRule-done, writtenRule-refuses, writtenRule-done, ackRule-refuses, ackRule-done, dropRule-refuses, dropRule-done, catch-shaped, written-shaped, drop-shaped}
+use Rattle.delivery.specs.World.{Side, World, sideAt, numbersIn, playerIn, withView, withPlayer, withSide, Step, catch, written, late-ack, drop, answered, called, calledThen, step}
 use Rattle.delivery.specs.World as W
 use Rattle.delivery.specs.Statement.{begins}
-use Rattle.delivery.specs.Worlds.{entries-in, window-in, windows-in, withPlayer-same, withPlayer-window, withPlace-player}
+use Rattle.delivery.specs.Worlds.{entries-in, window-in, windows-in, withPlayer-same, withPlayer-window, withSide-player}
 use Rattle.delivery.specs.Effects.{Worked, stays, works, WorksAt, Facts, working, dropping}
 use Rattle.delivery.specs.Effects as E
 
@@ -34,31 +34,31 @@ pub calledThen-done : (o : Outcome) (f : World → World) (wd : World) → o .an
 calledThen-done o f wd e = simp (eq-eqb (o .answer) 0 e)
 
 module _ (wd : World) (w : ℕ) where
-  pub within-in : w < length (playerIn wd .windows) → w < length (wd .places)
+  pub within-in : w < length (playerIn wd .windows) → w < length (wd .sides)
   within-in h = omega (arith, windows-in wd)
 
   -- what a law says of the rules' journal and window, said of the world's
   pub lift : (F : List Entry → WindowView → WindowView → Type 0) (v′ : WindowView) → F (entriesOf (numbersIn wd)) (windowAt w (playerIn wd)) v′ →
-      F (wd .journal) (placeAt w wd .view) v′
+      F (wd .journal) (sideAt w wd .view) v′
   lift F v′ f = subst₂ (λ j v. F j v v′) (entries-in wd) (window-in w wd) f
 
-  -- the player is in shape after an operation at a window, whatever else changes at its place
-  pub shape-after : (q : PlayerView) (v : WindowView) (p′ : Place) (wd′ : World) → q ≡ withWindow w v (playerIn wd) → shape (numbersIn wd) q ≡ true →
-      wd′ ≡ withPlace w p′ wd → p′ .view ≡ v → shape (numbersIn wd′) (playerIn wd′) ≡ true
+  -- the player is in shape after an operation at a window, whatever else changes at its side
+  pub shape-after : (q : PlayerView) (v : WindowView) (p′ : Side) (wd′ : World) → q ≡ withWindow w v (playerIn wd) → shape (numbersIn wd) q ≡ true →
+      wd′ ≡ withSide w p′ wd → p′ .view ≡ v → shape (numbersIn wd′) (playerIn wd′) ≡ true
   shape-after q v p′ wd′ e s is same =
       subst⁻¹ (λ x. shape (numbersIn x) (playerIn x) ≡ true) is
-      (ap (shape (numbersIn wd)) (withPlace-player w p′ wd ∙ ap (λ v. withWindow w v (playerIn wd)) same ∙ sym e) ∙ s)
+      (ap (shape (numbersIn wd)) (withSide-player w p′ wd ∙ ap (λ v. withWindow w v (playerIn wd)) same ∙ sym e) ∙ s)
 
   -- a call at window w that does a piece of the window's work and nothing else
   call-works : (s : Step) (o : Outcome) (T : Type 0) (after : T → WindowView) → step s wd ≡ called o wd →
       shape (numbersIn wd) (o .next) ≡ true → Operated (numbersIn wd) w (playerIn wd) o T after →
-      ((t : T) → Worked (wd .journal) (wd .limit) w (placeAt w wd) (withView (after t) (placeAt w wd))) → WorksAt s wd w
+      ((t : T) → Worked (wd .journal) (wd .limit) w (sideAt w wd) (withView (after t) (sideAt w wd))) → WorksAt s wd w
   call-works s o T after is shaped d work =
-      let e : step s wd .world ≡ withPlace w (withView (after (d .turn)) (placeAt w wd)) wd
+      let e : step s wd .world ≡ withSide w (withView (after (d .turn)) (sideAt w wd)) wd
       = ap (λ r. r .world) is ∙ withPlayer-window wd (o .next) w (after (d .turn)) (d .next) in
       record {
         within = within-in (d .within);
-        after = withView (after (d .turn)) (placeAt w wd);
+        after = withView (after (d .turn)) (sideAt w wd);
         work = work (d .turn);
         world = e;
         shaped = shape-after (o .next) (after (d .turn)) _ _ (d .next) shaped e refl;
@@ -80,11 +80,11 @@ module _ (wd : World) (shaped : shape (numbersIn wd) (playerIn wd) ≡ true) whe
   pub catch-works : (w : ℕ) (t : Term) (i : ℕ) → catchRule (numbersIn wd) w t i (playerIn wd) .answer ≡ 0 → WorksAt (catch w t i) wd w
   unfolding step
   catch-works w t i e =
-      call-works wd w (catch w t i) (catchRule (numbersIn wd) w t i (playerIn wd)) _ _ refl (catch-keeps (numbersIn wd) (playerIn wd) shaped w t i)
+      call-works wd w (catch w t i) (catchRule (numbersIn wd) w t i (playerIn wd)) _ _ refl (catch-shaped (numbersIn wd) (playerIn wd) shaped w t i)
       (catchRule-done (numbersIn wd) w t i (playerIn wd) e)
       (λ c.
       let g = lift wd w (λ j v v′. (c : Caught j w t i v) × (v′ ≡ fetched (wanted j w i v) i (c .upto) v)) _ (c, refl) in
-      E.caught t i (g .0) (ap (λ v. withView v (placeAt w wd)) (g .1)))
+      E.caught t i (g .0) (ap (λ v. withView v (sideAt w wd)) (g .1)))
 
   pub facts-catch : (w : ℕ) (t : Term) (i : ℕ) → Facts (catch w t i) wd
   unfolding step
@@ -98,11 +98,11 @@ module _ (wd : World) (shaped : shape (numbersIn wd) (playerIn wd) ≡ true) whe
   pub written-works : (w : ℕ) (t : Term) → writtenRule (numbersIn wd) w t (playerIn wd) .answer ≡ 0 → WorksAt (written w t) wd w
   unfolding step
   written-works w t e =
-      call-works wd w (written w t) (writtenRule (numbersIn wd) w t (playerIn wd)) _ _ refl (written-keeps (numbersIn wd) (playerIn wd) shaped w t)
+      call-works wd w (written w t) (writtenRule (numbersIn wd) w t (playerIn wd)) _ _ refl (written-shaped (numbersIn wd) (playerIn wd) shaped w t)
       (writtenRule-done (numbersIn wd) w t (playerIn wd) e)
       (λ c.
       let g = lift wd w (λ j v v′. (c : WrittenOff t v) × (v′ ≡ freed v)) _ (c, refl) in
-      E.written t (g .0) (ap (λ v. withView v (placeAt w wd)) (g .1)))
+      E.written t (g .0) (ap (λ v. withView v (sideAt w wd)) (g .1)))
 
   pub facts-written : (w : ℕ) (t : Term) → Facts (written w t) wd
   unfolding step
@@ -114,24 +114,24 @@ module _ (wd : World) (shaped : shape (numbersIn wd) (playerIn wd) ≡ true) whe
       (eq-or-ne (writtenRule (numbersIn wd) w t (playerIn wd) .answer) 0)
 
   -- an ack of an older term, or for a window that is not there, is never answered 0
-  late-refused : (w : ℕ) (t : Term) (i : ℕ) → (leb (length (wd .places)) w || ltb (t .0) (placeAt w wd .view .term .0)) ≡ true →
+  late-refused : (w : ℕ) (t : Term) (i : ℕ) → (leb (length (wd .sides)) w || ltb (t .0) (sideAt w wd .view .term .0)) ≡ true →
       ackRule (numbersIn wd) w t i (playerIn wd) .answer ≡ 0 → ⊥
   late-refused w t i late e =
       let d = ackRule-done (numbersIn wd) w t i (playerIn wd) e in
-      let h : w < length (wd .places) = within-in wd w (d .within) in
-      let same : t .0 ≡ placeAt w wd .view .term .0 = d .turn .term ∙ ap (λ v. v .term .0) (window-in w wd) in
-      let older : ltb (t .0) (placeAt w wd .view .term .0) ≡ true = rw (lt-leb (length (wd .places)) w h) at late in
-      omega (arith, ltb-true (t .0) (placeAt w wd .view .term .0) older)
+      let h : w < length (wd .sides) = within-in wd w (d .within) in
+      let same : t .0 ≡ sideAt w wd .view .term .0 = d .turn .term ∙ ap (λ v. v .term .0) (window-in w wd) in
+      let older : ltb (t .0) (sideAt w wd .view .term .0) ≡ true = rw (lt-leb (length (wd .sides)) w h) at late in
+      omega (arith, ltb-true (t .0) (sideAt w wd .view .term .0) older)
 
   pub facts-late : (w : ℕ) (t : Term) (i : ℕ) → Facts (late-ack w t i) wd
   unfolding step
   facts-late w t i =
       ⊎-elim
-      (λ (late : (leb (length (wd .places)) w || ltb (t .0) (placeAt w wd .view .term .0)) ≡ true).
+      (λ (late : (leb (length (wd .sides)) w || ltb (t .0) (sideAt w wd .view .term .0)) ≡ true).
       call-refused wd (late-ack w t i) (ackRule (numbersIn wd) w t i (playerIn wd)) (rw late) refl
       (ackRule-refuses (numbersIn wd) w t i (playerIn wd) (late-refused w t i late)))
-      (λ (young : (leb (length (wd .places)) w || ltb (t .0) (placeAt w wd .view .term .0)) ≡ false). working refl (stays (rw young)))
-      (true-or-false (leb (length (wd .places)) w || ltb (t .0) (placeAt w wd .view .term .0)))
+      (λ (young : (leb (length (wd .sides)) w || ltb (t .0) (sideAt w wd .view .term .0)) ≡ false). working refl (stays (rw young)))
+      (true-or-false (leb (length (wd .sides)) w || ltb (t .0) (sideAt w wd .view .term .0)))
 
   -- ------------------------------------------------------------------------
   -- Drop
@@ -142,11 +142,11 @@ module _ (wd : World) (shaped : shape (numbersIn wd) (playerIn wd) ≡ true) whe
       ⊎-elim
       (λ (e : dropRule (numbersIn wd) w (playerIn wd) .answer ≡ 0).
       let d = dropRule-done (numbersIn wd) w (playerIn wd) e in
-      let is : withPlayer (dropRule (numbersIn wd) w (playerIn wd) .next) wd ≡ withPlace w (withView (dropped (placeAt w wd .view)) (placeAt w wd)) wd
+      let is : withPlayer (dropRule (numbersIn wd) w (playerIn wd) .next) wd ≡ withSide w (withView (dropped (sideAt w wd .view)) (sideAt w wd)) wd
       = withPlayer-window wd _ w (dropped (windowAt w (playerIn wd))) (d .next)
-      ∙ ap (λ v. withPlace w (withView (dropped v) (placeAt w wd)) wd) (window-in w wd) in
+      ∙ ap (λ v. withSide w (withView (dropped v) (sideAt w wd)) wd) (window-in w wd) in
       dropping w refl (eq-eqb _ 0 e) (within-in wd w (d .within)) is
-      (shape-after wd w _ (dropped (windowAt w (playerIn wd))) _ _ (d .next) (drop-keeps (numbersIn wd) (playerIn wd) shaped w) is
+      (shape-after wd w _ (dropped (windowAt w (playerIn wd))) _ _ (d .next) (drop-shaped (numbersIn wd) (playerIn wd) shaped w) is
       (ap dropped (sym (window-in w wd)))))
       (λ (n : dropRule (numbersIn wd) w (playerIn wd) .answer ≡ 0 → ⊥).
       call-refused wd (drop w) _ refl (ne-eqb _ 0 n) (dropRule-refuses (numbersIn wd) w (playerIn wd) n))

@@ -9,12 +9,12 @@ use native.Mathlib.Numerals.{add-one}
 use borrow.Author.Tests.{eq-eqb, ne-eqb, lt-ltb, le-ltb}
 use lib.ListN.{length, getD, length-map, List·getD-map}
 use Rattle.journal.specs.declared.Entry.{Entry}
-use Rattle.journal.specs.Cases.{eq-or-ne, le-or-lt}
+use Rattle.lists.specs.Cases.{eq-or-ne, le-or-lt}
 use Rattle.rules.specs.Shape.{shape}
 use Rattle.rules.specs.Window.{mainAt, started}
 use Rattle.rules.specs.Rules.{Outcome, windowAt, mainRule, least, startRule}
-use Rattle.rules.specs.Offers.{MainDone, mainRule-done, mainRule-refuses, mainNext-at, mainRule-count, StartDone, startRule-done, startRule-refuses, startNext-at, least-le, main-keeps, start-keeps}
-use Rattle.delivery.specs.World.{Place, World, noPlace, placeAt, numbersIn, playerIn, withView, withViews, withPlayer, Step, main, catch, written, send, ack, late-ack, drop, join, start, append, cleared, reportsIn, step}
+use Rattle.rules.specs.Offers.{MainDone, mainRule-done, mainRule-refuses, mainNext-at, mainRule-count, StartDone, startRule-done, startRule-refuses, startNext-at, least-le, main-shaped, start-shaped}
+use Rattle.delivery.specs.World.{Side, World, noSide, sideAt, numbersIn, playerIn, withView, withViews, withPlayer, Step, main, catch, written, send, ack, late-ack, drop, join, start, append, cleared, reportsIn, step}
 use Rattle.delivery.specs.World as W
 use Rattle.delivery.specs.Invariant.{lastOf}
 use Rattle.delivery.specs.Worlds.{entries-in, count-in, window-in, windows-in, withViews-length, withViews-at, withPlayer-same, withPlayer-player}
@@ -32,21 +32,21 @@ module _ (wd : World) (shaped : shape (numbersIn wd) (playerIn wd) ≡ true) whe
   mained i e =
       let o : Outcome = mainRule (numbersIn wd) i (playerIn wd) in
       let d : MainDone (numbersIn wd) i (playerIn wd) o = mainRule-done (numbersIn wd) i (playerIn wd) e in
-      let n : length (o .next .windows) ≡ length (wd .places) = mainRule-count (numbersIn wd) i (playerIn wd) ∙ windows-in wd in
+      let n : length (o .next .windows) ≡ length (wd .sides) = mainRule-count (numbersIn wd) i (playerIn wd) ∙ windows-in wd in
       let i≡ : i ≡ suc (wd .current) = d .index ∙ add-one (wd .current) in
       record {
         below = omega (arith, d .below, count-in wd);
         journal = refl;
         current = ap (λ q. q .current) (d .next) ∙ i≡;
-        count = withViews-length (o .next .windows) (wd .places) n;
+        count = withViews-length (o .next .windows) (wd .sides) n;
         each = λ w h.
-            withViews-at (o .next .windows) (wd .places) w n h
-            ∙ ap (λ v. withView v (placeAt w wd))
+            withViews-at (o .next .windows) (wd .sides) w n h
+            ∙ ap (λ v. withView v (sideAt w wd))
             (ap (windowAt w) (d .next)
             ∙ mainNext-at (numbersIn wd) i (playerIn wd) w
             ∙ ap₂ (λ j v. mainAt j w i v) (entries-in wd) (window-in w wd)
-            ∙ ap (λ i. mainAt (wd .journal) w i (placeAt w wd .view)) i≡);
-        shaped = ap (shape (numbersIn wd)) (withPlayer-player wd (o .next) n) ∙ main-keeps (numbersIn wd) (playerIn wd) shaped i;
+            ∙ ap (λ i. mainAt (wd .journal) w i (sideAt w wd .view)) i≡);
+        shaped = ap (shape (numbersIn wd)) (withPlayer-player wd (o .next) n) ∙ main-shaped (numbersIn wd) (playerIn wd) shaped i;
       }
 
   pub main-moves : (i : ℕ) → mainRule (numbersIn wd) i (playerIn wd) .answer ≡ 0 → Mained wd (step (main i) wd .world)
@@ -64,53 +64,53 @@ module _ (wd : World) (shaped : shape (numbersIn wd) (playerIn wd) ≡ true) whe
   -- ------------------------------------------------------------------------
   -- Start
 
-  views-cleared : (ps : List Place) → map (λ p. p .view) (map cleared ps) ≡ map (λ p. p .view) ps
+  views-cleared : (ps : List Side) → map (λ p. p .view) (map cleared ps) ≡ map (λ p. p .view) ps
   views-cleared [] = refl
   views-cleared (p ∷ ps) = ap (λ l. p .view ∷ l) (views-cleared ps)
 
-  report-in : (w : ℕ) → getD (reportsIn wd) w 0 ≡ lastOf (placeAt w wd)
-  report-in w = List·getD-map lastOf (wd .places) w noPlace
+  report-in : (w : ℕ) → getD (reportsIn wd) w 0 ≡ lastOf (sideAt w wd)
+  report-in w = List·getD-map lastOf (wd .sides) w noSide
 
-  restarted : (b : ℕ) → startRule (numbersIn wd) (length (wd .places)) b (reportsIn wd) (playerIn wd) .answer ≡ 0 → Restarted wd (step (start b) wd .world)
+  restarted : (b : ℕ) → startRule (numbersIn wd) (length (wd .sides)) b (reportsIn wd) (playerIn wd) .answer ≡ 0 → Restarted wd (step (start b) wd .world)
   unfolding step withPlayer
   restarted b e =
-      let o : Outcome = startRule (numbersIn wd) (length (wd .places)) b (reportsIn wd) (playerIn wd) in
-      let d : StartDone (numbersIn wd) (length (wd .places)) b (reportsIn wd) o = startRule-done (numbersIn wd) (length (wd .places)) b (reportsIn wd) (playerIn wd) e in
-      let all : World → World = λ wd′. record { journal = wd′ .journal; limit = wd′ .limit; current = wd′ .current; places = map cleared (wd′ .places) } in
+      let o : Outcome = startRule (numbersIn wd) (length (wd .sides)) b (reportsIn wd) (playerIn wd) in
+      let d : StartDone (numbersIn wd) (length (wd .sides)) b (reportsIn wd) o = startRule-done (numbersIn wd) (length (wd .sides)) b (reportsIn wd) (playerIn wd) e in
+      let all : World → World = λ wd′. record { journal = wd′ .journal; limit = wd′ .limit; current = wd′ .current; sides = map cleared (wd′ .sides) } in
       let is : step (start b) wd .world ≡ all (withPlayer (o .next) wd) = calledThen-done o all wd e in
-      let n : length (o .next .windows) ≡ length (wd .places)
-      = ap (λ q. length (q .windows)) (d .next) ∙ length-map (reportsIn wd) started ∙ length-map (wd .places) lastOf in
-      let reports : length (reportsIn wd) ≡ length (wd .places) = length-map (wd .places) lastOf in
+      let n : length (o .next .windows) ≡ length (wd .sides)
+      = ap (λ q. length (q .windows)) (d .next) ∙ length-map (reportsIn wd) started ∙ length-map (wd .sides) lastOf in
+      let reports : length (reportsIn wd) ≡ length (wd .sides) = length-map (wd .sides) lastOf in
       subst⁻¹ (Restarted wd) is
       (record {
         journal = refl;
-        count = length-map (withViews (o .next .windows) (wd .places)) cleared ∙ withViews-length (o .next .windows) (wd .places) n;
+        count = length-map (withViews (o .next .windows) (wd .sides)) cleared ∙ withViews-length (o .next .windows) (wd .sides) n;
         least = λ w h.
-            subst⁻¹ (λ c. c ≤ lastOf (placeAt w wd)) (ap (λ q. q .current) (d .next))
+            subst⁻¹ (λ c. c ≤ lastOf (sideAt w wd)) (ap (λ q. q .current) (d .next))
             (subst (λ r. least (reportsIn wd) ≤ r) (report-in w) (least-le (reportsIn wd) w (omega arith)));
         each = λ w h.
-            List·getD-map cleared (withViews (o .next .windows) (wd .places)) w noPlace
+            List·getD-map cleared (withViews (o .next .windows) (wd .sides)) w noSide
             ∙ ap cleared
-            (withViews-at (o .next .windows) (wd .places) w n h
-            ∙ ap (λ v. withView v (placeAt w wd))
+            (withViews-at (o .next .windows) (wd .sides) w n h
+            ∙ ap (λ v. withView v (sideAt w wd))
             (ap (windowAt w) (d .next) ∙ startNext-at b (reportsIn wd) w (omega arith) ∙ ap started (report-in w)));
         shaped =
-            ap (λ vs. shape (numbersIn wd) (record { limit = o .next .limit; current = o .next .current; windows = vs })) (views-cleared (withViews (o .next .windows) (wd .places)))
+            ap (λ vs. shape (numbersIn wd) (record { limit = o .next .limit; current = o .next .current; windows = vs })) (views-cleared (withViews (o .next .windows) (wd .sides)))
             ∙ ap (shape (numbersIn wd)) (withPlayer-player wd (o .next) n)
-            ∙ start-keeps (numbersIn wd) (length (wd .places)) b (reportsIn wd) (playerIn wd) e;
+            ∙ start-shaped (numbersIn wd) (length (wd .sides)) b (reportsIn wd) (playerIn wd) e;
       })
 
   facts-start : (b : ℕ) → Facts (start b) wd
   unfolding step
   facts-start b =
-      let o : Outcome = startRule (numbersIn wd) (length (wd .places)) b (reportsIn wd) (playerIn wd) in
+      let o : Outcome = startRule (numbersIn wd) (length (wd .sides)) b (reportsIn wd) (playerIn wd) in
       ⊎-elim
       (λ (e : o .answer ≡ 0). starting b refl (eq-eqb _ 0 e) (restarted b e))
       (λ (n : o .answer ≡ 0 → ⊥).
       working (ne-eqb _ 0 n)
       (stays
-      (calledThen-refused o (λ wd′. record { journal = wd′ .journal; limit = wd′ .limit; current = wd′ .current; places = map cleared (wd′ .places) }) wd n
-      ∙ withPlayer-same wd (o .next) (startRule-refuses (numbersIn wd) (length (wd .places)) b (reportsIn wd) (playerIn wd) n))))
+      (calledThen-refused o (λ wd′. record { journal = wd′ .journal; limit = wd′ .limit; current = wd′ .current; sides = map cleared (wd′ .sides) }) wd n
+      ∙ withPlayer-same wd (o .next) (startRule-refuses (numbersIn wd) (length (wd .sides)) b (reportsIn wd) (playerIn wd) n))))
       (eq-or-ne (o .answer) 0)
 
   -- ------------------------------------------------------------------------

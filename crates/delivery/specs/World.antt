@@ -6,9 +6,9 @@ use lib.ListN.{length, getD, set}
 use lib.Dec.{leb, ltb, eqb}
 use Rattle.journal.specs.declared.Entry.{Entry}
 use Rattle.journal.specs.Entry.{Placed, numbersOf, placedAt, fiveOf}
-use Rattle.window.specs.declared.Record.{Record}
-use Rattle.window.specs.Record.{newRecord, takeNumbers}
-use Rattle.window.specs.Record as Take
+use Rattle.record.specs.declared.Record.{Record}
+use Rattle.record.specs.Record.{newRecord, takeNumbers}
+use Rattle.record.specs.Record as Take
 use Rattle.rules.specs.declared.Term.{Term}
 use Rattle.rules.specs.View.{WindowView, noWindow, PlayerView}
 use Rattle.rules.specs.Rules.{Outcome, mainRule, catchRule, writtenRule, ackRule, dropRule, joinRule, sendRule, batchAt, startRule}
@@ -25,7 +25,7 @@ pub record Ack : Type 0 where
   pub index : ℕ
 
 -- one window's side of a run: what the player holds for it, its record, the line to it, the line back, and what it has taken
-pub record Place : Type 0 where
+pub record Side : Type 0 where
   pub view : WindowView
   pub record′ : Record
   pub line : List Sent
@@ -36,41 +36,41 @@ pub record World : Type 0 where
   pub journal : List Entry
   pub limit : ℕ
   pub current : ℕ
-  pub places : List Place
+  pub sides : List Side
 
-abbrev pub noPlace : Place
-noPlace = record { view = noWindow; record′ = newRecord; line = []; back = []; taken = [] }
+abbrev pub noSide : Side
+noSide = record { view = noWindow; record′ = newRecord; line = []; back = []; taken = [] }
 
-abbrev pub placeAt : ℕ → World → Place
-placeAt w wd = getD (wd .places) w noPlace
+abbrev pub sideAt : ℕ → World → Side
+sideAt w wd = getD (wd .sides) w noSide
 
 -- the journal as numbers, and the player, as the rules take them
 abbrev pub numbersIn : World → List ℕ
 numbersIn wd = numbersOf (wd .journal)
 
 abbrev pub playerIn : World → PlayerView
-playerIn wd = record { limit = wd .limit; current = wd .current; windows = map (λ p. p .view) (wd .places) }
+playerIn wd = record { limit = wd .limit; current = wd .current; windows = map (λ p. p .view) (wd .sides) }
 
 -- ------------------------------------------------------------------------
 -- Parts of a world replaced
 
-abbrev pub withView : WindowView → Place → Place
+abbrev pub withView : WindowView → Side → Side
 withView v p = record { view = v; record′ = p .record′; line = p .line; back = p .back; taken = p .taken }
 
-abbrev pub withLines : List Sent → List Ack → Place → Place
+abbrev pub withLines : List Sent → List Ack → Side → Side
 withLines l b p = record { view = p .view; record′ = p .record′; line = l; back = b; taken = p .taken }
 
-unfoldable pub withViews : List WindowView → List Place → List Place
+unfoldable pub withViews : List WindowView → List Side → List Side
 withViews [] ps = []
 withViews (v ∷ vs) [] = []
 withViews (v ∷ vs) (p ∷ ps) = withView v p ∷ withViews vs ps
 
 -- the world with the player as a rule leaves it
 unfoldable pub withPlayer : PlayerView → World → World
-withPlayer p wd = record { journal = wd .journal; limit = p .limit; current = p .current; places = withViews (p .windows) (wd .places) }
+withPlayer p wd = record { journal = wd .journal; limit = p .limit; current = p .current; sides = withViews (p .windows) (wd .sides) }
 
-abbrev pub withPlace : ℕ → Place → World → World
-withPlace w p wd = record { journal = wd .journal; limit = wd .limit; current = wd .current; places = set (wd .places) w p }
+abbrev pub withSide : ℕ → Side → World → World
+withSide w p wd = record { journal = wd .journal; limit = wd .limit; current = wd .current; sides = set (wd .sides) w p }
 
 -- ------------------------------------------------------------------------
 -- The lines
@@ -82,7 +82,7 @@ onLine j t (i ∷ []) = record { placed = placedAt j i; term = t; ends = true } 
 onLine j t (i ∷ k ∷ is) = record { placed = placedAt j i; term = t; ends = false } ∷ onLine j t (k ∷ is)
 
 -- Take is lent the front entry and removes it; the last of a batch puts an ack on the way back
-unfoldable pub takeFront : Sent → List Sent → Place → Place
+unfoldable pub takeFront : Sent → List Sent → Side → Side
 takeFront s rest p =
     let o : Take.Outcome = takeNumbers (fiveOf (s .placed)) (p .record′) in
     record {
@@ -137,14 +137,14 @@ calledThen o f wd = record {
 -- Send answered 0 puts the batch that it wrote on its window's line
 abbrev pub launch : ℕ → World → World → World
 launch w before wd =
-    let p : Place = placeAt w wd in
-    withPlace w (withLines (p .line ++ onLine (before .journal) (placeAt w before .view .term) (batchAt w (playerIn before))) (p .back) p) wd
+    let p : Side = sideAt w wd in
+    withSide w (withLines (p .line ++ onLine (before .journal) (sideAt w before .view .term) (batchAt w (playerIn before))) (p .back) p) wd
 
 abbrev pub takeAtLine : ℕ → List Sent → World → Stepped
 takeAtLine w [] wd = stays empty wd
 takeAtLine w (s ∷ rest) wd = record {
-  reply = answered (takeNumbers (fiveOf (s .placed)) (placeAt w wd .record′) .number);
-  world = withPlace w (takeFront s rest (placeAt w wd)) wd;
+  reply = answered (takeNumbers (fiveOf (s .placed)) (sideAt w wd .record′) .number);
+  world = withSide w (takeFront s rest (sideAt w wd)) wd;
 }
 
 -- Ack offers the front ack, which stays on the line if refused
@@ -152,15 +152,15 @@ abbrev pub ackAtLine : ℕ → List Ack → World → Stepped
 ackAtLine w [] wd = stays empty wd
 ackAtLine w (a ∷ rest) wd =
     calledThen (ackRule (numbersIn wd) w (a .term) (a .index) (playerIn wd))
-    (λ wd′. withPlace w (withLines (placeAt w wd′ .line) rest (placeAt w wd′)) wd′) wd
+    (λ wd′. withSide w (withLines (sideAt w wd′ .line) rest (sideAt w wd′)) wd′) wd
 
 -- both ways of a line emptied
-abbrev pub cleared : Place → Place
+abbrev pub cleared : Side → Side
 cleared p = withLines [] [] p
 
 -- the reports that Start gets: the last index of each window's record
 abbrev pub reportsIn : World → List ℕ
-reportsIn wd = map (λ p. p .record′ .last .0) (wd .places)
+reportsIn wd = map (λ p. p .record′ .last .0) (wd .sides)
 
 -- windows from W up have no line: a Take or an Ack there is answered 2, as the player's calls are
 unfoldable pub step : Step → World → Stepped
@@ -168,21 +168,21 @@ step (main i) wd = called (mainRule (numbersIn wd) i (playerIn wd)) wd
 step (catch w t i) wd = called (catchRule (numbersIn wd) w t i (playerIn wd)) wd
 step (written w t) wd = called (writtenRule (numbersIn wd) w t (playerIn wd)) wd
 step (send w out) wd = calledThen (sendRule (numbersIn wd) w (length out) (playerIn wd)) (launch w wd) wd
-step (take w) wd = cond (ltb w (length (wd .places))) (takeAtLine w (placeAt w wd .line) wd) (stays (answered 2) wd)
-step (ack w) wd = cond (ltb w (length (wd .places))) (ackAtLine w (placeAt w wd .back) wd) (stays (answered 2) wd)
+step (take w) wd = cond (ltb w (length (wd .sides))) (takeAtLine w (sideAt w wd .line) wd) (stays (answered 2) wd)
+step (ack w) wd = cond (ltb w (length (wd .sides))) (ackAtLine w (sideAt w wd .back) wd) (stays (answered 2) wd)
 step (late-ack w t i) wd =
-    cond (leb (length (wd .places)) w || ltb (t .0) (placeAt w wd .view .term .0)) (called (ackRule (numbersIn wd) w t i (playerIn wd)) wd)
+    cond (leb (length (wd .sides)) w || ltb (t .0) (sideAt w wd .view .term .0)) (called (ackRule (numbersIn wd) w t i (playerIn wd)) wd)
     (stays unmade wd)
 step (drop w) wd = called (dropRule (numbersIn wd) w (playerIn wd)) wd
 step (join w) wd =
-    calledThen (joinRule (numbersIn wd) w (placeAt w wd .record′ .last .0) (playerIn wd))
-    (λ wd′. withPlace w (cleared (placeAt w wd′)) wd′) wd
+    calledThen (joinRule (numbersIn wd) w (sideAt w wd .record′ .last .0) (playerIn wd))
+    (λ wd′. withSide w (cleared (sideAt w wd′)) wd′) wd
 step (start b) wd =
-    calledThen (startRule (numbersIn wd) (length (wd .places)) b (reportsIn wd) (playerIn wd))
-    (λ wd′. record { journal = wd′ .journal; limit = wd′ .limit; current = wd′ .current; places = map cleared (wd′ .places) }) wd
+    calledThen (startRule (numbersIn wd) (length (wd .sides)) b (reportsIn wd) (playerIn wd))
+    (λ wd′. record { journal = wd′ .journal; limit = wd′ .limit; current = wd′ .current; sides = map cleared (wd′ .sides) }) wd
 step (append e) wd =
     cond (ltb (length (wd .journal)) 65535)
-    (stays (answered 0) (record { journal = wd .journal ++ (e ∷ []); limit = wd .limit; current = wd .current; places = wd .places }))
+    (stays (answered 0) (record { journal = wd .journal ++ (e ∷ []); limit = wd .limit; current = wd .current; sides = wd .sides }))
     (stays unmade wd)
 
 -- the world after a list of steps
@@ -193,9 +193,9 @@ run wd (s ∷ ss) = run (step s wd .world) ss
 -- ------------------------------------------------------------------------
 -- The beginning: new windows, empty lines, any journal and a Start
 
-abbrev pub newPlace : WindowView → Place
-newPlace v = record { view = v; record′ = newRecord; line = []; back = []; taken = [] }
+abbrev pub newSide : WindowView → Side
+newSide v = record { view = v; record′ = newRecord; line = []; back = []; taken = [] }
 
 -- the world after a first Start
 unfoldable pub opened : List Entry → Outcome → World
-opened j o = record { journal = j; limit = o .next .limit; current = o .next .current; places = map newPlace (o .next .windows) }
+opened j o = record { journal = j; limit = o .next .limit; current = o .next .current; sides = map newSide (o .next .windows) }

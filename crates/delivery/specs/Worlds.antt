@@ -1,4 +1,4 @@
--- Laws of a world's parts: the player in it, a place of it, and what a rule's outcome makes of it.
+-- Laws of a world's parts: the player in it, a side of it, and what a rule's outcome makes of it.
 use Prim.Native.Nat.{ℕ, zero, suc, _<_}
 use mathlib.Core.Path.{_≡_, refl, sym, ap, _∙_}
 use mathlib.Core.Logic.{_≢_}
@@ -10,7 +10,7 @@ use Rattle.journal.specs.Entry.{countOf, entriesOf}
 use Rattle.journal.specs.EntryLaws.{entriesOf-length, entriesOf-numbersOf}
 use Rattle.rules.specs.View.{WindowView, noWindow, PlayerView}
 use Rattle.rules.specs.Rules.{windowAt, withWindow}
-use Rattle.delivery.specs.World.{Place, World, noPlace, placeAt, numbersIn, playerIn, withView, withViews, withPlayer, withPlace}
+use Rattle.delivery.specs.World.{Side, World, noSide, sideAt, numbersIn, playerIn, withView, withViews, withPlayer, withSide}
 
 -- ------------------------------------------------------------------------
 -- the journal in a world
@@ -24,34 +24,34 @@ count-in wd = sym (entriesOf-length (numbersIn wd)) ∙ ap length (entries-in wd
 -- ------------------------------------------------------------------------
 -- the player in a world
 
-pub window-in : (w : ℕ) (wd : World) → windowAt w (playerIn wd) ≡ placeAt w wd .view
-window-in w wd = List·getD-map (λ p. p .view) (wd .places) w noPlace
+pub window-in : (w : ℕ) (wd : World) → windowAt w (playerIn wd) ≡ sideAt w wd .view
+window-in w wd = List·getD-map (λ p. p .view) (wd .sides) w noSide
 
-pub windows-in : (wd : World) → length (playerIn wd .windows) ≡ length (wd .places)
-windows-in wd = length-map (wd .places) (λ p. p .view)
+pub windows-in : (wd : World) → length (playerIn wd .windows) ≡ length (wd .sides)
+windows-in wd = length-map (wd .sides) (λ p. p .view)
 
 -- ------------------------------------------------------------------------
 -- withViews, withPlayer
 
-withViews-same : (ps : List Place) → withViews (map (λ p. p .view) ps) ps ≡ ps
+withViews-same : (ps : List Side) → withViews (map (λ p. p .view) ps) ps ≡ ps
 unfolding withViews
 withViews-same [] = refl
 withViews-same (p ∷ ps) = ap (λ l. p ∷ l) (withViews-same ps)
 
-withViews-set : (ps : List Place) (w : ℕ) (v : WindowView) → withViews (set (map (λ p. p .view) ps) w v) ps ≡ set ps w (withView v (getD ps w noPlace))
+withViews-set : (ps : List Side) (w : ℕ) (v : WindowView) → withViews (set (map (λ p. p .view) ps) w v) ps ≡ set ps w (withView v (getD ps w noSide))
 unfolding withViews
 withViews-set [] w v = refl
 withViews-set (p ∷ ps) zero v = ap (λ l. withView v p ∷ l) (withViews-same ps)
 withViews-set (p ∷ ps) (suc w) v = ap (λ l. p ∷ l) (withViews-set ps w v)
 
-pub withViews-length : (vs : List WindowView) (ps : List Place) → length vs ≡ length ps → length (withViews vs ps) ≡ length ps
+pub withViews-length : (vs : List WindowView) (ps : List Side) → length vs ≡ length ps → length (withViews vs ps) ≡ length ps
 unfolding withViews
 withViews-length [] ps e = e
 withViews-length (v ∷ vs) [] e = absurd (omega arith)
 withViews-length (v ∷ vs) (p ∷ ps) e = ap suc (withViews-length vs ps (omega arith))
 
-pub withViews-at : (vs : List WindowView) (ps : List Place) (w : ℕ) → length vs ≡ length ps → w < length ps →
-    getD (withViews vs ps) w noPlace ≡ withView (getD vs w noWindow) (getD ps w noPlace)
+pub withViews-at : (vs : List WindowView) (ps : List Side) (w : ℕ) → length vs ≡ length ps → w < length ps →
+    getD (withViews vs ps) w noSide ≡ withView (getD vs w noWindow) (getD ps w noSide)
 unfolding withViews
 withViews-at [] [] w e h = absurd (omega arith)
 withViews-at [] (p ∷ ps) w e h = absurd (omega arith)
@@ -59,7 +59,7 @@ withViews-at (v ∷ vs) [] w e h = absurd (omega arith)
 withViews-at (v ∷ vs) (p ∷ ps) zero e h = refl
 withViews-at (v ∷ vs) (p ∷ ps) (suc w) e h = withViews-at vs ps w (omega arith) (omega arith)
 
-withViews-views : (vs : List WindowView) (ps : List Place) → length vs ≡ length ps → map (λ p. p .view) (withViews vs ps) ≡ vs
+withViews-views : (vs : List WindowView) (ps : List Side) → length vs ≡ length ps → map (λ p. p .view) (withViews vs ps) ≡ vs
 unfolding withViews
 withViews-views [] [] e = refl
 withViews-views [] (p ∷ ps) e = refl
@@ -71,49 +71,49 @@ pub withPlayer-same : (wd : World) (q : PlayerView) → q ≡ playerIn wd → wi
 unfolding withPlayer
 withPlayer-same wd q e =
     ap (λ q. withPlayer q wd) e
-    ∙ ap (λ ps. record { journal = wd .journal; limit = wd .limit; current = wd .current; places = ps }) (withViews-same (wd .places))
+    ∙ ap (λ ps. record { journal = wd .journal; limit = wd .limit; current = wd .current; sides = ps }) (withViews-same (wd .sides))
 
 -- a turn of window w
 pub withPlayer-window : (wd : World) (q : PlayerView) (w : ℕ) (v : WindowView) → q ≡ withWindow w v (playerIn wd) →
-    withPlayer q wd ≡ withPlace w (withView v (placeAt w wd)) wd
+    withPlayer q wd ≡ withSide w (withView v (sideAt w wd)) wd
 unfolding withPlayer
 withPlayer-window wd q w v e =
     ap (λ q. withPlayer q wd) e
-    ∙ ap (λ ps. record { journal = wd .journal; limit = wd .limit; current = wd .current; places = ps }) (withViews-set (wd .places) w v)
+    ∙ ap (λ ps. record { journal = wd .journal; limit = wd .limit; current = wd .current; sides = ps }) (withViews-set (wd .sides) w v)
 
 -- the player that a rule leaves is then the player in the world
-pub withPlayer-player : (wd : World) (q : PlayerView) → length (q .windows) ≡ length (wd .places) → playerIn (withPlayer q wd) ≡ q
+pub withPlayer-player : (wd : World) (q : PlayerView) → length (q .windows) ≡ length (wd .sides) → playerIn (withPlayer q wd) ≡ q
 unfolding withPlayer
 withPlayer-player wd q e =
-    ap (λ vs. record { limit = q .limit; current = q .current; windows = vs }) (withViews-views (q .windows) (wd .places) e)
+    ap (λ vs. record { limit = q .limit; current = q .current; windows = vs }) (withViews-views (q .windows) (wd .sides) e)
 
 -- ------------------------------------------------------------------------
--- withPlace
+-- withSide
 
-pub withPlace-here : (w : ℕ) (p : Place) (wd : World) → w < length (wd .places) → placeAt w (withPlace w p wd) ≡ p
-withPlace-here w p wd h = getD-set-same (wd .places) w p noPlace h
+pub withSide-here : (w : ℕ) (p : Side) (wd : World) → w < length (wd .sides) → sideAt w (withSide w p wd) ≡ p
+withSide-here w p wd h = getD-set-same (wd .sides) w p noSide h
 
-pub withPlace-other : (w v : ℕ) (p : Place) (wd : World) → v ≢ w → placeAt v (withPlace w p wd) ≡ placeAt v wd
-withPlace-other w v p wd n = getD-set-other (wd .places) w v p noPlace n
+pub withSide-other : (w v : ℕ) (p : Side) (wd : World) → v ≢ w → sideAt v (withSide w p wd) ≡ sideAt v wd
+withSide-other w v p wd n = getD-set-other (wd .sides) w v p noSide n
 
-pub withPlace-count : (w : ℕ) (p : Place) (wd : World) → length (withPlace w p wd .places) ≡ length (wd .places)
-withPlace-count w p wd = length-set (wd .places) w p
+pub withSide-count : (w : ℕ) (p : Side) (wd : World) → length (withSide w p wd .sides) ≡ length (wd .sides)
+withSide-count w p wd = length-set (wd .sides) w p
 
-map-set : (ps : List Place) (w : ℕ) (p : Place) → map (λ p. p .view) (set ps w p) ≡ set (map (λ p. p .view) ps) w (p .view)
+map-set : (ps : List Side) (w : ℕ) (p : Side) → map (λ p. p .view) (set ps w p) ≡ set (map (λ p. p .view) ps) w (p .view)
 map-set [] w p = refl
 map-set (x ∷ ps) zero p = refl
 map-set (x ∷ ps) (suc w) p = ap (λ l. x .view ∷ l) (map-set ps w p)
 
--- the player then has that place's window
-pub withPlace-player : (w : ℕ) (p : Place) (wd : World) → playerIn (withPlace w p wd) ≡ withWindow w (p .view) (playerIn wd)
-withPlace-player w p wd = ap (λ vs. record { limit = wd .limit; current = wd .current; windows = vs }) (map-set (wd .places) w p)
+-- the player then has that side's window
+pub withSide-player : (w : ℕ) (p : Side) (wd : World) → playerIn (withSide w p wd) ≡ withWindow w (p .view) (playerIn wd)
+withSide-player w p wd = ap (λ vs. record { limit = wd .limit; current = wd .current; windows = vs }) (map-set (wd .sides) w p)
 
-pub withPlace-twice : (w : ℕ) (a b : Place) (wd : World) → withPlace w b (withPlace w a wd) ≡ withPlace w b wd
-withPlace-twice w a b wd =
-    ap (λ ps. record { journal = wd .journal; limit = wd .limit; current = wd .current; places = ps }) (set-set (wd .places) w a b)
+pub withSide-twice : (w : ℕ) (a b : Side) (wd : World) → withSide w b (withSide w a wd) ≡ withSide w b wd
+withSide-twice w a b wd =
+    ap (λ ps. record { journal = wd .journal; limit = wd .limit; current = wd .current; sides = ps }) (set-set (wd .sides) w a b)
 
 -- the window that was there changes nothing
-pub withWindow-same : (w : ℕ) (wd : World) → withWindow w (placeAt w wd .view) (playerIn wd) ≡ playerIn wd
+pub withWindow-same : (w : ℕ) (wd : World) → withWindow w (sideAt w wd .view) (playerIn wd) ≡ playerIn wd
 withWindow-same w wd =
     ap (λ v. withWindow w v (playerIn wd)) (sym (window-in w wd))
     ∙ ap (λ vs. record { limit = wd .limit; current = wd .current; windows = vs }) (set-getD (playerIn wd .windows) w noWindow)

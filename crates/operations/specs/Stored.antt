@@ -5,17 +5,17 @@ use mathlib.Core.Bool.{not, cond}
 use lib.ListN.{length, set}
 use lib.Dec.{ltb, eqb}
 use Rattle.journal.specs.declared.Entry.{Entry}
-use Rattle.held.specs.declared.Answer.{Answer}
-use Rattle.held.specs.declared.Answer.the-variants.{Done, OutOfShape, NoSuchWindow}
+use Rattle.window.specs.declared.Answer.{Answer}
+use Rattle.window.specs.declared.Answer.the-variants.{Done, OutOfShape, NoSuchWindow}
 use Rattle.player.specs.declared.Player.{Player}
-use Rattle.held.specs.declared.Turned.{Turned}
+use Rattle.window.specs.declared.Turned.{Turned}
 use Rattle.player.specs.declared.Played.{Played}
 use Rattle.rules.specs.View.{WindowView, PlayerView}
 use Rattle.rules.specs.Shape.{shape}
 use Rattle.rules.specs.Window.{mainAt}
 use Rattle.rules.specs.Rules.{mapWindows}
-use Rattle.held.specs.Promise.{numberOf}
-use Rattle.reading.specs.Guards.{mainGuard}
+use Rattle.window.specs.Promise.{numberOf}
+use Rattle.window_fill.specs.MainGuard.{mainGuard}
 
 -- what every operation on window w asks first
 unfoldable pub reached : List ℕ → ℕ → PlayerView → Answer

@@ -8,16 +8,16 @@ use borrow.Author.Tests.{leb-true, eqb-true}
 use lib.ListN.{length}
 use lib.Dec.{leb}
 use Rattle.journal.specs.Entry.{inShape, entriesOf}
-use Rattle.journal.specs.Cases.{and-left, and-right}
-use Rattle.held.specs.declared.Answer.the-variants.{Done, OutOfShape, BadReport}
+use Rattle.lists.specs.Cases.{and-left, and-right}
+use Rattle.window.specs.declared.Answer.the-variants.{Done, OutOfShape, BadReport}
 use Rattle.player.specs.declared.Player.{Player}
 use Rattle.player.specs.View.{firstWindows, playerOf}
 use Rattle.rules.specs.Shape.{countFits, limitFits}
 use Rattle.rules.specs.Window.{started}
 use Rattle.rules.specs.Rules.{areReports, least, startRule}
-use Rattle.player.specs.Promise.{Keeps}
+use Rattle.player.specs.Promise.{Meets}
 use Rattle.player.specs.Starting.{startFits}
-use Rattle.player.proofs.Refused.{refuse-keeps}
+use Rattle.player.proofs.Refused.{refuse-meets}
 
 module _ (ns : List ℕ) (count limit : ℕ) (reports : List ℕ) where
   -- 1 to 16 reports, as many as windows
@@ -37,20 +37,20 @@ module _ (ns : List ℕ) (count limit : ℕ) (reports : List ℕ) where
 
   module _ (p : Player) where
     pub start-shapeless : startFits ns count limit reports ≡ false →
-        Keeps p (record { answer = OutOfShape; player = p }) (startRule ns count limit reports (playerOf p))
+        Meets p (record { answer = OutOfShape; player = p }) (startRule ns count limit reports (playerOf p))
     unfolding startRule
-    start-shapeless h = refuse-keeps p OutOfShape _ (rw h)
+    start-shapeless h = refuse-meets p OutOfShape _ (rw h)
 
     module _ (h : startFits ns count limit reports ≡ true) where
       pub start-refused : areReports (entriesOf ns) 0 reports ≡ false →
-          Keeps p (record { answer = BadReport; player = p }) (startRule ns count limit reports (playerOf p))
+          Meets p (record { answer = BadReport; player = p }) (startRule ns count limit reports (playerOf p))
       unfolding startRule
-      start-refused b = refuse-keeps p BadReport _ (rw (h, b))
+      start-refused b = refuse-meets p BadReport _ (rw (h, b))
 
       pub start-done : areReports (entriesOf ns) 0 reports ≡ true → (r : Player) → playerOf r ≡ record { limit = limit; current = least reports; windows = map started reports } →
-          Keeps p (record { answer = Done; player = r }) (startRule ns count limit reports (playerOf p))
+          Meets p (record { answer = Done; player = r }) (startRule ns count limit reports (playerOf p))
       unfolding startRule
-      start-done b r e = rw (h, b) (record { answer = refl; next = e; kept = λ x. absurd (x refl) })
+      start-done b r e = rw (h, b) (record { answer = refl; next = e; unchanged = λ x. absurd (x refl) })
 
   -- the player that code makes, from its parts
   pub started-view : (r : Player) → r .count ≡ length reports → r .current .0 ≡ least reports → firstWindows (length reports) (r .windows) ≡ map started reports →

@@ -1,14 +1,14 @@
 -- What the calls promise: the equations between code and rule.
 use mathlib.Core.Path.{_≡_}
 use Rattle.rules.specs.Rules.{Outcome}
-use Rattle.held.specs.Promise.{numberOf}
+use Rattle.window.specs.Promise.{numberOf}
 use Rattle.player.specs.declared.Player.{Player}
 use Rattle.player.specs.declared.Played.{Played}
 use Rattle.player.specs.View.{playerOf}
 
 -- an operation on the player: its answer and the view of the next state are the rule's, and a refusal gives back the player handed in,
 -- stale cells too
-pub record Keeps (before : Player) (r : Played) (o : Outcome) : Type 0 where
+pub record Meets (before : Player) (r : Played) (o : Outcome) : Type 0 where
   pub answer : numberOf (r .answer) ≡ o .answer
   pub next : playerOf (r .player) ≡ o .next
-  pub kept : (o .answer ≡ 0 → ⊥) → r .player ≡ before
+  pub unchanged : (o .answer ≡ 0 → ⊥) → r .player ≡ before

@@ -11,9 +11,9 @@ use lib.Seq.{take-suc, drop-cons}
 use lib.Dec.{leb, eqb}
 use Rattle.journal.specs.declared.Entry.{Entry}
 use Rattle.journal.specs.Entry.{inShape}
-use Rattle.held.specs.declared.Window.{Window}
+use Rattle.window.specs.declared.Window.{Window}
 use Rattle.rules.specs.View.{WindowView}
-use Rattle.held.specs.View.{viewOf}
+use Rattle.window.specs.View.{viewOf}
 use Rattle.player.specs.View.{firstWindows}
 use Rattle.rules.specs.Shape.{countFits, limitFits}
 use Rattle.rules.specs.Window.{isReport, started}

@@ -2,8 +2,8 @@
 use Prim.Native.Nat.{ℕ, zero, suc}
 use mathlib.Core.List.{List, [], _∷_}
 use Rattle.rules.specs.View.{WindowView, noWindow, PlayerView}
-use Rattle.held.specs.declared.Window.{Window}
-use Rattle.held.specs.View.{viewOf}
+use Rattle.window.specs.declared.Window.{Window}
+use Rattle.window.specs.View.{viewOf}
 use Rattle.player.specs.declared.Player.{Player}
 
 -- the first n windows, filled up where there are fewer: so the list is as long as W says, whatever it says

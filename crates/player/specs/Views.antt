@@ -7,10 +7,10 @@ use mathlib.Core.List.{List, [], _∷_, _++_, append-nil}
 use mathlib.Core.Bool.{Bool, true, _&&_}
 use lib.ListN.{length, take, drop, getD, set, drop-of-length-le}
 use lib.Seq.{drop-cons, take-suc-set, drop-set-lt, append-snoc, take-all}
-use Rattle.journal.specs.Cases.{and-left, and-right}
-use Rattle.held.specs.declared.Window.{Window}
+use Rattle.lists.specs.Cases.{and-left, and-right}
+use Rattle.window.specs.declared.Window.{Window}
 use Rattle.rules.specs.View.{WindowView, noWindow}
-use Rattle.held.specs.View.{viewOf}
+use Rattle.window.specs.View.{viewOf}
 use Rattle.player.specs.View.{firstWindows}
 use Rattle.rules.specs.Shape.{allWindows}
 use Rattle.rules.specs.Rules.{mapWindows}

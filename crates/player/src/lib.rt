@@ -2,9 +2,9 @@
 mod shape;
 mod start;
 
-use held::Answer;
-use held::Window;
 use journal::Index;
+use window::Answer;
+use window::Window;
 
 // The player: the number of windows, the batch limit, the last index read by the main stream, and the windows. Those from the number
 // of windows up are no part of the state.

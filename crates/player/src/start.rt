@@ -1,9 +1,9 @@
 // Start: fresh windows from a report of each.
 use crate::Played;
 use crate::Player;
-use held::Answer;
-use held::Window;
 use journal::Index;
+use window::Answer;
+use window::Window;
 ghost use Prim.Native.Nat.{_≤_};
 ghost use mathlib.Core.Path.{_≡_};
 ghost use mathlib.Core.Bool.{_&&_};
@@ -14,7 +14,7 @@ ghost use Rattle.journal.specs.Entry.{entriesOf};
 ghost use Rattle.player.specs.View.{playerOf, firstWindows};
 ghost use Rattle.rules.specs.Window.{isReport, started};
 ghost use Rattle.rules.specs.Rules.{areReports, least, startRule};
-ghost use Rattle.player.specs.Promise.{Keeps};
+ghost use Rattle.player.specs.Promise.{Meets};
 ghost use Rattle.player.specs.Starting.{startFits};
 
 // Whether the number of windows is 1 to 16, the batch limit 1 to 32 and the journal in shape, and there are exactly so many reports.
@@ -106,7 +106,7 @@ impl Player {
     // Start: 1, also where there are not exactly `count` reports; 13: a report that is not one of its window. Every window below `count`
     // is fresh, and `current` is the least report. What the player held before is not read.
     pub fn start(self, journal: &[u32], count: u32, limit: u32, reports: &[u32]) -> Played
-        ensures { λ r. ⌜ Keeps self r (startRule (now (journal .entry)) count limit (now (reports .entry)) (playerOf self)) ⌝ }
+        ensures { λ r. ⌜ Meets self r (startRule (now (journal .entry)) count limit (now (reports .entry)) (playerOf self)) ⌝ }
     {
         if !start_in_shape(journal, count, limit, reports) {
             return Played {

@@ -1,13 +1,13 @@
 // What a case shows.
 use crate::state::State;
-use held::Answer;
-use held::Condition;
-use held::Head;
-use held::Window;
 use journal::Index;
 use player::Played;
 use player::Player;
 use rules::Term;
+use window::Answer;
+use window::Condition;
+use window::Head;
+use window::Window;
 
 // The number of what an operation answered.
 fn given(played: Played) -> u32 {

@@ -1,12 +1,12 @@
 // States made by hand, told by plain numbers.
-use held::Condition;
-use held::Head;
-use held::Window;
 use journal::Index;
 use player::Player;
 use queue::Batches;
 use queue::Queue;
 use rules::Term;
+use window::Condition;
+use window::Head;
+use window::Window;
 
 // The player's numbers, and one window: its place, and what the player holds for it.
 pub(crate) struct State {

@@ -39,22 +39,6 @@ pushed size x q = cond (ltb (length q) size) (q ++ (x ∷ [])) q
 unfoldable pub skipped : ℕ → ℕ → List ℕ → List ℕ
 skipped size k q = cond (leb (length q) size) (drop k q) q
 
--- every item passes a test
-unfoldable pub all : (ℕ → Bool) → List ℕ → Bool
-all p [] = true
-all p (x ∷ xs) = p x && all p xs
-
--- a number of low to high
-abbrev pub between : ℕ → ℕ → ℕ → Bool
-between low high x = leb low x && leb x high
-
--- an index of 1 to l; an index of at most l
-abbrev pub queuedIn : ℕ → ℕ → Bool
-queuedIn l x = leb 1 x && leb x l
-
-abbrev pub heldIn : ℕ → ℕ → Bool
-heldIn l x = leb x l
-
 -- the place of the first item that equals x
 unfoldable pub findFrom : ℕ → ℕ → List ℕ → Found
 findFrom x k [] = Nothing

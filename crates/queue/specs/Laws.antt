@@ -11,7 +11,8 @@ use lib.Seq.{drop-cons, drop-nil}
 use lib.Dec.{leb, eqb, leb·zero}
 use borrow.Author.Tests.{lt-ltb, le-ltb, le-leb, lt-leb, eqb-true, eqb-false}
 use Rattle.queue.specs.declared.Found.the-variants.{At}
-use Rattle.queue.specs.Items.{front, itemsOf, batchesOf, freshQueue, freshBatches, pushed, skipped, all, between, heldIn, findFrom}
+use Rattle.queue.specs.Items.{front, itemsOf, batchesOf, freshQueue, freshBatches, pushed, skipped, findFrom}
+use Rattle.lists.specs.All.{all, between, heldIn}
 
 -- front
 
@@ -118,42 +119,6 @@ skipped-front-over size k n cells h = sym (skipped-over size k (front n cells) (
 -- what is left of the items of a row that has no more than it may
 pub skipped-front-fits : (size k n : ℕ) (cells : List ℕ) → n ≤ size → skipped size k (front n cells) ≡ drop k (front n cells)
 skipped-front-fits size k n cells h = skipped-fits size k (front n cells) (rw front-length h)
-
--- all
-
-pub all-append : (p : ℕ → Bool) (xs ys : List ℕ) → all p (xs ++ ys) ≡ (all p xs && all p ys)
-unfolding all
-all-append p [] ys = refl
-all-append p (x ∷ xs) ys = rw (all-append p xs ys, and-assoc)
-
-pub all-cong : (p q : ℕ → Bool) → ((x : ℕ) → p x ≡ q x) → (xs : List ℕ) → all p xs ≡ all q xs
-unfolding all
-all-cong p q e [] = refl
-all-cong p q e (x ∷ xs) = rw (e x, all-cong p q e xs)
-
-pub all-weaken : (p q : ℕ → Bool) → ((x : ℕ) → p x ≡ true → q x ≡ true) → (xs : List ℕ) → all p xs ≡ true → all q xs ≡ true
-unfolding all
-all-weaken p q w [] h = refl
-all-weaken p q w (x ∷ xs) h =
-    let (hx, hs) = and-eq-true-iff (p x) (all p xs) .0 h in
-    rw (w x hx, all-weaken p q w xs hs)
-
-pub all-take : (p : ℕ → Bool) (k : ℕ) (xs : List ℕ) → all p xs ≡ true → all p (take k xs) ≡ true
-unfolding all
-all-take p zero xs h = refl
-all-take p (suc k) [] h = refl
-all-take p (suc k) (x ∷ xs) h =
-    let (hx, hs) = and-eq-true-iff (p x) (all p xs) .0 h in
-    rw (hx, all-take p k xs hs)
-
-pub all-drop : (p : ℕ → Bool) (k : ℕ) (xs : List ℕ) → all p xs ≡ true → all p (drop k xs) ≡ true
-unfolding all
-all-drop p zero xs h = h
-all-drop p (suc k) [] h = refl
-all-drop p (suc k) (x ∷ xs) h = all-drop p k xs (and-eq-true-iff (p x) (all p xs) .0 h .1)
-
-pub all-held : (l : ℕ) (xs : List ℕ) → all (between 0 l) xs ≡ all (heldIn l) xs
-all-held l = all-cong (between 0 l) (heldIn l) (λ x. rw leb·zero)
 
 -- findFrom
 

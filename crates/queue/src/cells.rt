@@ -2,7 +2,8 @@
 ghost use mathlib.Core.Path.{_≡_};
 ghost use Prim.Native.Nat.{_≤_};
 ghost use lib.ListN.{length, drop};
-ghost use Rattle.queue.specs.Items.{front, all, between, findFrom};
+ghost use Rattle.queue.specs.Items.{front, findFrom};
+ghost use Rattle.lists.specs.All.{all, between};
 use crate::Found;
 
 // Moves the first n cells down by k places, and gives how many of them are left.

@@ -7,7 +7,8 @@ ghost use mathlib.Core.Bool.{_&&_};
 ghost use mathlib.Core.List.{[]};
 ghost use lib.Dec.{leb};
 ghost use lib.ListN.{length, getD};
-ghost use Rattle.queue.specs.Items.{batchesOf, freshBatches, pushed, skipped, all, heldIn, findIn};
+ghost use Rattle.queue.specs.Items.{batchesOf, freshBatches, pushed, skipped, findIn};
+ghost use Rattle.lists.specs.All.{all, heldIn};
 
 impl Batches {
     pub const FRESH: Batches = Batches {

@@ -6,7 +6,8 @@ ghost use mathlib.Core.Bool.{_&&_};
 ghost use mathlib.Core.List.{[]};
 ghost use lib.Dec.{leb};
 ghost use lib.ListN.{length, getD};
-ghost use Rattle.queue.specs.Items.{itemsOf, freshQueue, pushed, skipped, all, queuedIn};
+ghost use Rattle.queue.specs.Items.{itemsOf, freshQueue, pushed, skipped};
+ghost use Rattle.lists.specs.All.{all, queuedIn};
 
 impl Queue {
     pub const FRESH: Queue = Queue {

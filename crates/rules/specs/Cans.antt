@@ -5,7 +5,7 @@ use mathlib.Core.List.{List}
 use mathlib.Core.Bool.{true, false}
 use lib.ListN.{length}
 use Rattle.journal.specs.Entry.{entriesOf}
-use Rattle.journal.specs.Due.{elem}
+use Rattle.lists.specs.Elem.{elem}
 use Rattle.rules.specs.View.{fetching, PlayerView}
 use Rattle.rules.specs.Shape.{shape, isEmpty}
 use Rattle.rules.specs.Window.{isSuspended, batchOf}
@@ -14,24 +14,24 @@ use Rattle.rules.specs.Turns.{catchAt-can, sendAt-can, writtenAt-can, ac
 use Rattle.rules.specs.Laws.{operate-in}
 
 module _ (ns : List ℕ) (w : ℕ) (p : PlayerView) (shaped : shape ns p ≡ true) (within : w < length (p .windows)) where
-  pub catchRule-can : (n end : ℕ) → windowAt w p .state ≡ fetching n end → length (windowAt w p .catchQueue) < 128 →
+  pub catchRule-can : (n end : ℕ) → windowAt w p .condition ≡ fetching n end → length (windowAt w p .catchQueue) < 128 →
       catchRule ns w (windowAt w p .term) n p .answer ≡ 0
   unfolding catchRule
   catchRule-can n end is room =
       ap (λ o. o .answer) (operate-in ns w _ p shaped within) ∙ ap (λ t. t .answer) (catchAt-can (entriesOf ns) w (windowAt w p) n end is room)
 
-  pub sendRule-can : (size : ℕ) → isSuspended (windowAt w p .state) ≡ false → windowAt w p .busy ≡ false → length (windowAt w p .batches) < 8 →
+  pub sendRule-can : (size : ℕ) → isSuspended (windowAt w p .condition) ≡ false → windowAt w p .busy ≡ false → length (windowAt w p .batches) < 8 →
       5 * p .limit ≤ size → isEmpty (batchOf (p .limit) (windowAt w p) .indices) ≡ false → sendRule ns w size p .answer ≡ 0
   unfolding sendRule
   sendRule-can size here free few room some =
       ap (λ o. o .answer) (operate-in ns w _ p shaped within) ∙ ap (λ t. t .answer) (sendAt-can (p .limit) size (windowAt w p) here free few room some)
 
-  pub writtenRule-can : isSuspended (windowAt w p .state) ≡ false → windowAt w p .busy ≡ true → writtenRule ns w (windowAt w p .term) p .answer ≡ 0
+  pub writtenRule-can : isSuspended (windowAt w p .condition) ≡ false → windowAt w p .busy ≡ true → writtenRule ns w (windowAt w p .term) p .answer ≡ 0
   unfolding writtenRule
   writtenRule-can here busy =
       ap (λ o. o .answer) (operate-in ns w _ p shaped within) ∙ ap (λ t. t .answer) (writtenAt-can (windowAt w p) here busy)
 
-  pub ackRule-can : (i : ℕ) → isSuspended (windowAt w p .state) ≡ false → elem i (windowAt w p .batches) ≡ true →
+  pub ackRule-can : (i : ℕ) → isSuspended (windowAt w p .condition) ≡ false → elem i (windowAt w p .batches) ≡ true →
       ackRule ns w (windowAt w p .term) i p .answer ≡ 0
   unfolding ackRule
   ackRule-can i here out =

@@ -10,7 +10,7 @@ use lib.ListN.{length, set, getD, length-append, length-set, length-map}
 use lib.Seq.{getD-set-same, getD-set-other}
 use lib.Dec.{eqb}
 use Rattle.journal.specs.declared.Entry.{Entry}
-use Rattle.journal.specs.Cases.{eq-or-ne, and-left, and-intro}
+use Rattle.lists.specs.Cases.{eq-or-ne, and-left, and-intro}
 use Rattle.journal.specs.Entry.{countOf, entriesOf, numbersOf}
 use Rattle.journal.specs.EntryLaws.{entriesOf-length, numbersOf-length}
 use Rattle.rules.specs.declared.Term.{Term}
@@ -30,8 +30,8 @@ use Rattle.rules.specs.KeptLine.{launched-shaped, freed-shaped, acknowle
 
 module _ (ns : List ℕ) (p : PlayerView) (s : shape ns p ≡ true) where
   -- one window replaced by another in shape
-  withWindow-keeps : (w : ℕ) (v : WindowView) → WindowShaped (countOf ns) (p .current) v → shape ns (withWindow w v p) ≡ true
-  withWindow-keeps w v h =
+  withWindow-shaped : (w : ℕ) (v : WindowView) → WindowShaped (countOf ns) (p .current) v → shape ns (withWindow w v p) ≡ true
+  withWindow-shaped w v h =
       let f : Shaped ns p = shaped ns p s in
       let n : length (set (p .windows) w v) ≡ length (p .windows) = length-set (p .windows) w v in
       shape-of ns (withWindow w v p)
@@ -50,57 +50,57 @@ module _ (ns : List ℕ) (p : PlayerView) (s : shape ns p ≡ true) where
       at f u l (inl e) = rw e (rw (getD-set-same (p .windows) w v noWindow (rw e at l)) h)
       at f u l (inr e) = rw (getD-set-other (p .windows) w u v noWindow e) (f .windows u l)
 
-  operate-keeps : (w : ℕ) (f : WindowView → Turn) → ((v : WindowView) → Refuses v (f v)) →
+  operate-shaped : (w : ℕ) (f : WindowView → Turn) → ((v : WindowView) → Refuses v (f v)) →
       ((v : WindowView) → WindowShaped (countOf ns) (p .current) v → f v .answer ≡ 0 → WindowShaped (countOf ns) (p .current) (f v .next)) →
       shape ns (operate ns w f p .next) ≡ true
-  operate-keeps w f refuses keeps =
+  operate-shaped w f refuses keeps =
       operate-cases ns w f p (λ o. shape ns (o .next) ≡ true) s s
       (λ e h. let v : WindowView = windowAt w p in
       let g : WindowShaped (countOf ns) (p .current) v = shaped ns p s .windows w h in
-      withWindow-keeps w (f v .next)
+      withWindow-shaped w (f v .next)
       (⊎-elim (λ (a : f v .answer ≡ 0). keeps v g a) (λ (a : f v .answer ≡ 0 → ⊥). rw (refuses v a) g) (eq-or-ne (f v .answer) 0)))
 
-  pub catch-keeps : (w : ℕ) (t : Term) (i : ℕ) → shape ns (catchRule ns w t i p .next) ≡ true
+  pub catch-shaped : (w : ℕ) (t : Term) (i : ℕ) → shape ns (catchRule ns w t i p .next) ≡ true
   unfolding catchRule
-  catch-keeps w t i =
-      operate-keeps w _ (catchAt-refuses (entriesOf ns) w t i)
+  catch-shaped w t i =
+      operate-shaped w _ (catchAt-refuses (entriesOf ns) w t i)
       (λ v g a. let d = catchAt-done (entriesOf ns) w t i v a in
       rw (d .next) (fetched-shaped _ _ (shaped ns p s .currentIn) i (d .upto) v g (d .was) _ (d .room)))
 
-  pub send-keeps : (w size : ℕ) → shape ns (sendRule ns w size p .next) ≡ true
+  pub send-shaped : (w size : ℕ) → shape ns (sendRule ns w size p .next) ≡ true
   unfolding sendRule
-  send-keeps w size =
-      operate-keeps w _ (sendAt-refuses (p .limit) size)
+  send-shaped w size =
+      operate-shaped w _ (sendAt-refuses (p .limit) size)
       (λ v g a. let d = sendAt-done (p .limit) size v a in
       rw (d .next) (launched-shaped _ _ (shaped ns p s .currentIn) v g (p .limit) (d .here) (d .few)))
 
-  pub written-keeps : (w : ℕ) (t : Term) → shape ns (writtenRule ns w t p .next) ≡ true
+  pub written-shaped : (w : ℕ) (t : Term) → shape ns (writtenRule ns w t p .next) ≡ true
   unfolding writtenRule
-  written-keeps w t =
-      operate-keeps w _ (writtenAt-refuses t) (λ v g a. let d = writtenAt-done t v a in rw (d .next) (freed-shaped _ _ v g (d .here)))
+  written-shaped w t =
+      operate-shaped w _ (writtenAt-refuses t) (λ v g a. let d = writtenAt-done t v a in rw (d .next) (freed-shaped _ _ v g (d .here)))
 
-  pub ack-keeps : (w : ℕ) (t : Term) (i : ℕ) → shape ns (ackRule ns w t i p .next) ≡ true
+  pub ack-shaped : (w : ℕ) (t : Term) (i : ℕ) → shape ns (ackRule ns w t i p .next) ≡ true
   unfolding ackRule
-  ack-keeps w t i =
-      operate-keeps w _ (ackAt-refuses t i)
+  ack-shaped w t i =
+      operate-shaped w _ (ackAt-refuses t i)
       (λ v g a. let d = ackAt-done t i v a in rw (d .next) (acknowledged-shaped _ _ i v g (d .here) (d .out)))
 
-  pub drop-keeps : (w : ℕ) → shape ns (dropRule ns w p .next) ≡ true
+  pub drop-shaped : (w : ℕ) → shape ns (dropRule ns w p .next) ≡ true
   unfolding dropRule
-  drop-keeps w = operate-keeps w _ dropAt-refuses (λ v g a. rw (dropAt-done v a .next) (dropped-shaped _ _ v g))
+  drop-shaped w = operate-shaped w _ dropAt-refuses (λ v g a. rw (dropAt-done v a .next) (dropped-shaped _ _ v g))
 
-  pub join-keeps : (w r : ℕ) → shape ns (joinRule ns w r p .next) ≡ true
+  pub join-shaped : (w r : ℕ) → shape ns (joinRule ns w r p .next) ≡ true
   unfolding joinRule
-  join-keeps w r =
-      operate-keeps w _ (joinAt-refuses (entriesOf ns) w (p .current) r)
+  join-shaped w r =
+      operate-shaped w _ (joinAt-refuses (entriesOf ns) w (p .current) r)
       (λ v g a. let d = joinAt-done (entriesOf ns) w (p .current) r v a in
       rw (d .next) (joined-shaped _ _ r (shaped ns p s .currentIn) v g (d .away) (d .most)))
 
   -- ------------------------------------------------------------------------
   -- Main
 
-  pub main-keeps : (i : ℕ) → shape ns (mainRule ns i p .next) ≡ true
-  main-keeps i = mainRule-cases ns i p (λ o. shape ns (o .next) ≡ true) s s s (λ e h n. next h n)
+  pub main-shaped : (i : ℕ) → shape ns (mainRule ns i p .next) ≡ true
+  main-shaped i = mainRule-cases ns i p (λ o. shape ns (o .next) ≡ true) s s s (λ e h n. next h n)
     where
       next : p .current < countOf ns → i ≡ p .current + 1 → shape ns (mainNext ns i p) ≡ true
       next h n =
@@ -122,9 +122,9 @@ module _ (ns : List ℕ) (p : PlayerView) (s : shape ns p ≡ true) where
 -- ------------------------------------------------------------------------
 -- Start
 
-pub start-keeps : (ns : List ℕ) (c b : ℕ) (rs : List ℕ) (p : PlayerView) → startRule ns c b rs p .answer ≡ 0 →
+pub start-shaped : (ns : List ℕ) (c b : ℕ) (rs : List ℕ) (p : PlayerView) → startRule ns c b rs p .answer ≡ 0 →
     shape ns (startRule ns c b rs p .next) ≡ true
-start-keeps ns c b rs p e =
+start-shaped ns c b rs p e =
     let d = startRule-done ns c b rs p e in
     let g = d .given in
     let n : length (map started rs) ≡ length rs = length-map rs started in
@@ -146,8 +146,8 @@ start-keeps ns c b rs p e =
 -- ------------------------------------------------------------------------
 -- an append
 
-pub append-keeps : (ns : List ℕ) (e : Entry) (p : PlayerView) → shape ns p ≡ true → countOf ns < 65535 → shape (ns ++ numbersOf (e ∷ [])) p ≡ true
-append-keeps ns e p s room =
+pub append-shaped : (ns : List ℕ) (e : Entry) (p : PlayerView) → shape ns p ≡ true → countOf ns < 65535 → shape (ns ++ numbersOf (e ∷ [])) p ≡ true
+append-shaped ns e p s room =
     let f : Shaped ns p = shaped ns p s in
     let a : length (ns ++ numbersOf (e ∷ [])) ≡ length ns + 4 =
     length-append ns (numbersOf (e ∷ [])) ∙ ap (λ n. length ns + n) (numbersOf-length (e ∷ [])) in

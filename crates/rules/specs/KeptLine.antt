@@ -8,16 +8,15 @@ use native.Mathlib.Omega.{arith}
 use borrow.Author.Tests.{leb-true, ltb-true, eqb-true, le-leb, not-true}
 use lib.ListN.{length, take, length-append}
 use lib.Dec.{leb, ltb, eqb}
-use Rattle.journal.specs.Cases.{le-or-lt, and-left, and-right, and-intro}
-use Rattle.journal.specs.Due.{elem, lastOr}
-use Rattle.queue.specs.Items.{all, queuedIn, heldIn}
-use Rattle.queue.specs.Laws.{all-append, all-weaken, all-take}
-use Rattle.rules.specs.View.{State, normal, fetching, completed, suspended, WindowView}
-use Rattle.rules.specs.Shape.{isEmpty, stateHeld, suspendedFits}
+use Rattle.lists.specs.Cases.{le-or-lt, and-left, and-right, and-intro}
+use Rattle.lists.specs.Elem.{elem, lastOr}
+use Rattle.lists.specs.All.{all, queuedIn, heldIn, all-append, all-weaken, all-take, all-elem}
+use Rattle.rules.specs.View.{Condition, normal, fetching, completed, suspended, WindowView}
+use Rattle.rules.specs.Shape.{isEmpty, conditionHeld, suspendedFits}
 use Rattle.rules.specs.Window.{isSuspended, requeue, Batch, batchOf, launched, freed, struck, acknowledged, dropped, joined, started}
 use Rattle.rules.specs.Batches.{isEmpty-some, isEmpty-drop, batchOf-normal, batchOf-fetching, batchOf-more, batchOf-all}
 use Rattle.rules.specs.Shaped.{WindowShaped}
-use Rattle.rules.specs.KeptWindow.{Queued, queued-none, queued-drop, normalQueued, catchQueued, StateShaped, stateShaped, normal-shaped, fetching-shaped, completed-shaped, fetching-bounds, completed-bound, lined, here-shaped}
+use Rattle.rules.specs.KeptWindow.{Queued, queued-none, queued-drop, normalQueued, catchQueued, ConditionShaped, conditionShaped, normal-shaped, fetching-shaped, completed-shaped, fetching-bounds, completed-bound, lined, here-shaped}
 
 -- ------------------------------------------------------------------------
 -- Send
@@ -32,15 +31,15 @@ lastOr-held l a (x ∷ xs) h e =
 record Batched (l c : ℕ) (v : WindowView) (b : Batch) : Type 0 where
   within : all (queuedIn l) (b .indices) ≡ true
   rest : WindowShaped l c (b .rest)
-  here : isSuspended (b .rest .state) ≡ false
+  here : isSuspended (b .rest .condition) ≡ false
   same : b .rest .batches ≡ v .batches
 
 module _ (l c : ℕ) (most : c ≤ l) (v : WindowView) (s : WindowShaped l c v) where
-  requeue-batched : (xs n q : List ℕ) (t : State) → all (queuedIn l) xs ≡ true → Queued l n → Queued l q → StateShaped l c t q →
+  requeue-batched : (xs n q : List ℕ) (t : Condition) → all (queuedIn l) xs ≡ true → Queued l n → Queued l q → ConditionShaped l c t q →
       Batched l c v (record { indices = xs; rest = requeue n q t v })
   requeue-batched xs n q t e a b h = record { within = e; rest = here-shaped l c _ a b (lined s) h; here = h .here; same = refl }
 
-  batchIn-shaped : (k : ℕ) (t : State) → v .state ≡ t → isSuspended t ≡ false →
+  batchIn-shaped : (k : ℕ) (t : Condition) → v .condition ≡ t → isSuspended t ≡ false →
       Batched l c v (batchOf k (requeue (v .normalQueue) (v .catchQueue) t v))
   batchIn-shaped k normal is here =
       rw (batchOf-normal v k (v .normalQueue) (v .catchQueue))
@@ -66,10 +65,10 @@ module _ (l c : ℕ) (most : c ≤ l) (v : WindowView) (s : WindowShaped l c v) 
       (le-or-lt (length (v .catchQueue)) k)
   batchIn-shaped k suspended is here = absurd (true≢false here)
 
-  pub launched-shaped : (k : ℕ) → isSuspended (v .state) ≡ false → length (v .batches) < 8 → WindowShaped l c (launched (batchOf k v))
+  pub launched-shaped : (k : ℕ) → isSuspended (v .condition) ≡ false → length (v .batches) < 8 → WindowShaped l c (launched (batchOf k v))
   unfolding launched all
   launched-shaped k here few =
-      let b : Batched l c v (batchOf k v) = batchIn-shaped k (v .state) refl here in
+      let b : Batched l c v (batchOf k v) = batchIn-shaped k (v .condition) refl here in
       let r = b .rest in
       let held : lastOr 0 (batchOf k v .indices) ≤ l = lastOr-held l 0 (batchOf k v .indices) (omega arith) (b .within) in
       here-shaped l c _ (normalQueued r) (catchQueued r)
@@ -80,25 +79,16 @@ module _ (l c : ℕ) (most : c ≤ l) (v : WindowView) (s : WindowShaped l c v) 
         within = rw (all-append (heldIn l) (batchOf k v .rest .batches) (lastOr 0 (batchOf k v .indices) ∷ []))
             (and-intro (r .batchesIn) (and-intro (le-leb _ l held) refl));
       })
-      (stateShaped r (b .here))
+      (conditionShaped r (b .here))
 
 -- ------------------------------------------------------------------------
 -- Written
 
-pub freed-shaped : (l c : ℕ) (v : WindowView) → WindowShaped l c v → isSuspended (v .state) ≡ false → WindowShaped l c (freed v)
-freed-shaped l c v s here = here-shaped l c (freed v) (normalQueued s) (catchQueued s) (lined s) (stateShaped s here)
+pub freed-shaped : (l c : ℕ) (v : WindowView) → WindowShaped l c v → isSuspended (v .condition) ≡ false → WindowShaped l c (freed v)
+freed-shaped l c v s here = here-shaped l c (freed v) (normalQueued s) (catchQueued s) (lined s) (conditionShaped s here)
 
 -- ------------------------------------------------------------------------
 -- Ack
-
-pub all-elem : (p : ℕ → Bool) (i : ℕ) (xs : List ℕ) → all p xs ≡ true → elem i xs ≡ true → p i ≡ true
-unfolding all
-all-elem p i [] a e = absurd (false≢true e)
-all-elem p i (x ∷ xs) a e = go (eqb i x) refl e (all-elem p i xs (and-right (p x) _ a))
-  where
-    go : (b : Bool) → eqb i x ≡ b → (b || elem i xs) ≡ true → (elem i xs ≡ true → p i ≡ true) → p i ≡ true
-    go true q h ih = rw (eqb-true i x q) (and-left (p x) _ a)
-    go false q h ih = ih h
 
 pub struck-length : (i : ℕ) (xs : List ℕ) → length (struck i xs) ≤ length xs
 unfolding struck
@@ -118,7 +108,7 @@ all-struck p i (x ∷ xs) a = go (eqb i x) (all-struck p i xs (and-right (p x) _
     go true h = and-right (p x) _ a
     go false h = h
 
-pub acknowledged-shaped : (l c i : ℕ) (v : WindowView) → WindowShaped l c v → isSuspended (v .state) ≡ false → elem i (v .batches) ≡ true →
+pub acknowledged-shaped : (l c i : ℕ) (v : WindowView) → WindowShaped l c v → isSuspended (v .condition) ≡ false → elem i (v .batches) ≡ true →
     WindowShaped l c (acknowledged i v)
 acknowledged-shaped l c i v s here out =
     here-shaped l c (acknowledged i v) (normalQueued s) (catchQueued s)
@@ -128,7 +118,7 @@ acknowledged-shaped l c i v s here out =
       fits = omega (arith, struck-length i (v .batches), s .batchesFit);
       within = all-struck (heldIn l) i (v .batches) (s .batchesIn);
     })
-    (stateShaped s here)
+    (conditionShaped s here)
 
 -- ------------------------------------------------------------------------
 -- Drop
@@ -145,7 +135,7 @@ dropped-shaped l c v s =
       ackedIn = s .ackedIn;
       sentIn = s .sentIn;
       batchesIn = refl;
-      stateIn = refl;
+      conditionIn = refl;
       next = refl;
       end = refl;
       catchUp = refl;
@@ -155,22 +145,22 @@ dropped-shaped l c v s =
 -- ------------------------------------------------------------------------
 -- Join
 
-suspendedFits-catch : (v : WindowView) (t : State) → isSuspended t ≡ true → suspendedFits v t ≡ true → isEmpty (v .catchQueue) ≡ true
+suspendedFits-catch : (v : WindowView) (t : Condition) → isSuspended t ≡ true → suspendedFits v t ≡ true → isEmpty (v .catchQueue) ≡ true
 suspendedFits-catch v normal h e = absurd (false≢true h)
 suspendedFits-catch v (fetching n end) h e = absurd (false≢true h)
 suspendedFits-catch v (completed end) h e = absurd (false≢true h)
 suspendedFits-catch v suspended h e = and-left (isEmpty (v .catchQueue)) _ (and-right (isEmpty (v .normalQueue)) _ e)
 
-pub joined-shaped : (l c r : ℕ) → c ≤ l → (v : WindowView) → WindowShaped l c v → isSuspended (v .state) ≡ true → r ≤ v .sent →
+pub joined-shaped : (l c r : ℕ) → c ≤ l → (v : WindowView) → WindowShaped l c v → isSuspended (v .condition) ≡ true → r ≤ v .sent →
     WindowShaped l c (joined c r v)
 joined-shaped l c r most v s away high =
     here-shaped l c (joined c r v) (normalQueued s) (catchQueued s)
     (record { ackedIn = omega (arith, s .sentIn); sentIn = omega (arith, s .sentIn); fits = s .batchesFit; within = s .batchesIn })
     (go (ltb r c) refl)
   where
-    go : (b : Bool) → ltb r c ≡ b → StateShaped l c (cond b (fetching (r + 1) c) normal) (v .catchQueue)
+    go : (b : Bool) → ltb r c ≡ b → ConditionShaped l c (cond b (fetching (r + 1) c) normal) (v .catchQueue)
     go true b = fetching-shaped l c most _ (r + 1) c (omega arith) (omega (arith, ltb-true r c b)) (omega arith)
-    go false b = normal-shaped l c most _ (suspendedFits-catch v (v .state) away (s .away))
+    go false b = normal-shaped l c most _ (suspendedFits-catch v (v .condition) away (s .away))
 
 -- ------------------------------------------------------------------------
 -- Start
@@ -184,13 +174,13 @@ started-shaped l c r most h =
 -- ------------------------------------------------------------------------
 -- a longer journal
 
-stateHeld-wider : (l m : ℕ) (t : State) → l ≤ m → stateHeld l t ≡ true → stateHeld m t ≡ true
-stateHeld-wider l m normal h e = refl
-stateHeld-wider l m (fetching n end) h e =
+conditionHeld-wider : (l m : ℕ) (t : Condition) → l ≤ m → conditionHeld l t ≡ true → conditionHeld m t ≡ true
+conditionHeld-wider l m normal h e = refl
+conditionHeld-wider l m (fetching n end) h e =
     and-intro (le-leb n m (omega (arith, leb-true n l (and-left (leb n l) (leb end l) e))))
     (le-leb end m (omega (arith, leb-true end l (and-right (leb n l) (leb end l) e))))
-stateHeld-wider l m (completed end) h e = le-leb end m (omega (arith, leb-true end l e))
-stateHeld-wider l m suspended h e = refl
+conditionHeld-wider l m (completed end) h e = le-leb end m (omega (arith, leb-true end l e))
+conditionHeld-wider l m suspended h e = refl
 
 queued-wider : (l m : ℕ) → l ≤ m → (q : List ℕ) → all (queuedIn l) q ≡ true → all (queuedIn m) q ≡ true
 queued-wider l m h =
@@ -208,7 +198,7 @@ wider-shaped l m c v h s =
       ackedIn = omega (arith, s .ackedIn);
       sentIn = omega (arith, s .sentIn);
       batchesIn = all-weaken (heldIn l) (heldIn m) (λ x e. le-leb x m (omega (arith, leb-true x l e))) (v .batches) (s .batchesIn);
-      stateIn = stateHeld-wider l m (v .state) h (s .stateIn);
+      conditionIn = conditionHeld-wider l m (v .condition) h (s .conditionIn);
       next = s .next;
       end = s .end;
       catchUp = s .catchUp;

@@ -8,12 +8,11 @@ use borrow.Author.Tests.{leb-true, leb-false, ltb-true, le-leb}
 use lib.ListN.{length, drop, length-append, length-drop}
 use lib.Dec.{leb, ltb}
 use Rattle.journal.specs.declared.Entry.{Entry}
-use Rattle.journal.specs.Cases.{and-left, and-right, and-intro}
-use Rattle.queue.specs.Items.{all, queuedIn, heldIn}
-use Rattle.queue.specs.Laws.{all-append, all-drop}
-use Rattle.rules.specs.View.{State, normal, fetching, completed, suspended, WindowView}
-use Rattle.rules.specs.Shape.{isEmpty, stateHeld, nextFits, endFits, catchUpFits, suspendedFits}
-use Rattle.rules.specs.Window.{isSuspended, full, requeue, enqueue, wanted, mainAt, stateAfter, fetched}
+use Rattle.lists.specs.Cases.{and-left, and-right, and-intro}
+use Rattle.lists.specs.All.{all, queuedIn, heldIn, all-append, all-drop}
+use Rattle.rules.specs.View.{Condition, normal, fetching, completed, suspended, WindowView}
+use Rattle.rules.specs.Shape.{isEmpty, conditionHeld, nextFits, endFits, catchUpFits, suspendedFits}
+use Rattle.rules.specs.Window.{isSuspended, full, requeue, enqueue, wanted, mainAt, conditionAfter, fetched}
 use Rattle.rules.specs.Shaped.{WindowShaped}
 
 -- ------------------------------------------------------------------------
@@ -44,34 +43,34 @@ catchQueued s = record { fits = s .catchFits; within = s .catchIn }
 -- ------------------------------------------------------------------------
 -- a condition in shape beside a catch-up queue, other than Suspended
 
-pub record StateShaped (l c : ℕ) (s : State) (q : List ℕ) : Type 0 where
-  pub held : stateHeld l s ≡ true
+pub record ConditionShaped (l c : ℕ) (s : Condition) (q : List ℕ) : Type 0 where
+  pub held : conditionHeld l s ≡ true
   pub next : nextFits s ≡ true
   pub end : endFits c s ≡ true
   pub catchUp : catchUpFits s q ≡ true
   pub here : isSuspended s ≡ false
 
-pub stateShaped : {l c : ℕ} {v : WindowView} → WindowShaped l c v → isSuspended (v .state) ≡ false → StateShaped l c (v .state) (v .catchQueue)
-stateShaped s h = record { held = s .stateIn; next = s .next; end = s .end; catchUp = s .catchUp; here = h }
+pub conditionShaped : {l c : ℕ} {v : WindowView} → WindowShaped l c v → isSuspended (v .condition) ≡ false → ConditionShaped l c (v .condition) (v .catchQueue)
+conditionShaped s h = record { held = s .conditionIn; next = s .next; end = s .end; catchUp = s .catchUp; here = h }
 
 -- a later `current` allows no less
-endFits-later : (c i : ℕ) (s : State) → c ≤ i → endFits c s ≡ true → endFits i s ≡ true
+endFits-later : (c i : ℕ) (s : Condition) → c ≤ i → endFits c s ≡ true → endFits i s ≡ true
 endFits-later c i normal h e = refl
 endFits-later c i (fetching n end) h e = le-leb end i (omega (arith, leb-true end c e))
 endFits-later c i (completed end) h e = le-leb end i (omega (arith, leb-true end c e))
 endFits-later c i suspended h e = refl
 
-suspendedFits-here : (v : WindowView) (s : State) → isSuspended s ≡ false → suspendedFits v s ≡ true
+suspendedFits-here : (v : WindowView) (s : Condition) → isSuspended s ≡ false → suspendedFits v s ≡ true
 suspendedFits-here v normal h = refl
 suspendedFits-here v (fetching n e) h = refl
 suspendedFits-here v (completed e) h = refl
 suspendedFits-here v suspended h = absurd (true≢false h)
 
 module _ (l c : ℕ) (most : c ≤ l) (q : List ℕ) where
-  pub normal-shaped : isEmpty q ≡ true → StateShaped l c normal q
+  pub normal-shaped : isEmpty q ≡ true → ConditionShaped l c normal q
   normal-shaped e = record { held = refl; next = refl; end = refl; catchUp = e; here = refl }
 
-  pub fetching-shaped : (n e : ℕ) → 1 ≤ n → n ≤ e → e ≤ c → StateShaped l c (fetching n e) q
+  pub fetching-shaped : (n e : ℕ) → 1 ≤ n → n ≤ e → e ≤ c → ConditionShaped l c (fetching n e) q
   fetching-shaped n e low high top =
       record {
         held = and-intro (le-leb n l (omega arith)) (le-leb e l (omega arith));
@@ -81,18 +80,18 @@ module _ (l c : ℕ) (most : c ≤ l) (q : List ℕ) where
         here = refl;
       }
 
-  pub completed-shaped : (e : ℕ) → e ≤ c → isEmpty q ≡ false → StateShaped l c (completed e) q
+  pub completed-shaped : (e : ℕ) → e ≤ c → isEmpty q ≡ false → ConditionShaped l c (completed e) q
   completed-shaped e top some = record { held = le-leb e l (omega arith); next = refl; end = le-leb e c top; catchUp = ap not some; here = refl }
 
 -- what a window in shape says of the indices of its condition
 module _ {l c : ℕ} {v : WindowView} (s : WindowShaped l c v) where
-  pub fetching-bounds : (n e : ℕ) → v .state ≡ fetching n e → (1 ≤ n) × (n ≤ e) × (e ≤ c)
+  pub fetching-bounds : (n e : ℕ) → v .condition ≡ fetching n e → (1 ≤ n) × (n ≤ e) × (e ≤ c)
   fetching-bounds n e is =
       let t : (leb 1 n && leb n e) ≡ true = rw is at (s .next) in
       let u : leb e c ≡ true = rw is at (s .end) in
       (leb-true 1 n (and-left (leb 1 n) (leb n e) t), leb-true n e (and-right (leb 1 n) (leb n e) t), leb-true e c u)
 
-  pub completed-bound : (e : ℕ) → v .state ≡ completed e → e ≤ c
+  pub completed-bound : (e : ℕ) → v .condition ≡ completed e → e ≤ c
   completed-bound e is = let u : leb e c ≡ true = rw is at (s .end) in leb-true e c u
 
 -- ------------------------------------------------------------------------
@@ -109,7 +108,7 @@ lined s = record { ackedIn = s .ackedIn; sentIn = s .sentIn; fits = s .batchesFi
 
 -- a window other than Suspended is in shape part by part
 pub here-shaped : (l c : ℕ) (v : WindowView) → Queued l (v .normalQueue) → Queued l (v .catchQueue) → Lined l (v .acked) (v .sent) (v .batches) →
-    StateShaped l c (v .state) (v .catchQueue) → WindowShaped l c v
+    ConditionShaped l c (v .condition) (v .catchQueue) → WindowShaped l c v
 here-shaped l c v n q h s =
     record {
       normalFits = n .fits;
@@ -120,11 +119,11 @@ here-shaped l c v n q h s =
       ackedIn = h .ackedIn;
       sentIn = h .sentIn;
       batchesIn = h .within;
-      stateIn = s .held;
+      conditionIn = s .held;
       next = s .next;
       end = s .end;
       catchUp = s .catchUp;
-      away = suspendedFits-here v (v .state) (s .here);
+      away = suspendedFits-here v (v .condition) (s .here);
     }
 
 -- ------------------------------------------------------------------------
@@ -142,16 +141,16 @@ later-shaped l c i v s h =
       ackedIn = s .ackedIn;
       sentIn = s .sentIn;
       batchesIn = s .batchesIn;
-      stateIn = s .stateIn;
+      conditionIn = s .conditionIn;
       next = s .next;
-      end = endFits-later c i (v .state) h (s .end);
+      end = endFits-later c i (v .condition) h (s .end);
       catchUp = s .catchUp;
       away = s .away;
     }
 
 module _ (l c i : ℕ) (v : WindowView) (s : WindowShaped l c v) (above : c < i) (top : i ≤ l) where
   -- the normal queue is full and the window is requeued, or the index goes on the normal queue
-  either-shaped : (q : List ℕ) (t t′ : State) → Queued l q → StateShaped l i t′ q → v .state ≡ t → isSuspended t ≡ false →
+  either-shaped : (q : List ℕ) (t t′ : Condition) → Queued l q → ConditionShaped l i t′ q → v .condition ≡ t → isSuspended t ≡ false →
       WindowShaped l i (cond (full (v .normalQueue)) (requeue [] q t′ v) (requeue (v .normalQueue ++ (i ∷ [])) (v .catchQueue) t v))
   either-shaped q t t′ b u is here = go (full (v .normalQueue)) refl
     where
@@ -159,11 +158,11 @@ module _ (l c i : ℕ) (v : WindowView) (s : WindowShaped l c v) (above : c < i)
       go true e = here-shaped l i _ (queued-none l) b (lined s) u
       go false e =
           let room : length (v .normalQueue) < 128 = leb-false _ _ e in
-          let own : isSuspended (v .state) ≡ false = rw is here in
+          let own : isSuspended (v .condition) ≡ false = rw is here in
           here-shaped l i _ (queued-push l i (v .normalQueue) room (omega arith) top (normalQueued s)) (catchQueued s) (lined s)
-          (rw is at (stateShaped (later-shaped l c i v s (omega arith)) own))
+          (rw is at (conditionShaped (later-shaped l c i v s (omega arith)) own))
 
-  enqueue-shaped : (t : State) → v .state ≡ t → WindowShaped l i (enqueue t i v)
+  enqueue-shaped : (t : Condition) → v .condition ≡ t → WindowShaped l i (enqueue t i v)
   unfolding enqueue
   enqueue-shaped normal is =
       either-shaped (v .normalQueue) normal (fetching i i) (normalQueued s) (fetching-shaped l i top _ i i (omega arith) (omega arith) (omega arith)) is refl
@@ -180,29 +179,29 @@ module _ (l c i : ℕ) (v : WindowView) (s : WindowShaped l c v) (above : c < i)
   unfolding mainAt
   mainAt-shaped j w = go (wanted j w i v)
     where
-      go : (b : Bool) → WindowShaped l i (cond b (enqueue (v .state) i v) v)
-      go true = enqueue-shaped (v .state) refl
+      go : (b : Bool) → WindowShaped l i (cond b (enqueue (v .condition) i v) v)
+      go true = enqueue-shaped (v .condition) refl
       go false = later-shaped l c i v s (omega arith)
 
 -- ------------------------------------------------------------------------
 -- Catch
 
 module _ (l c : ℕ) (most : c ≤ l) (n e : ℕ) (low : 1 ≤ n) (high : n ≤ e) (top : e ≤ c) where
-  stateAfter-shaped : (q : List ℕ) → StateShaped l c (stateAfter n e q) q
-  stateAfter-shaped q = go (ltb n e) refl (isEmpty q) refl
+  conditionAfter-shaped : (q : List ℕ) → ConditionShaped l c (conditionAfter n e q) q
+  conditionAfter-shaped q = go (ltb n e) refl (isEmpty q) refl
     where
-      go : (b : Bool) → ltb n e ≡ b → (d : Bool) → isEmpty q ≡ d → StateShaped l c (cond b (fetching (n + 1) e) (cond d normal (completed e))) q
+      go : (b : Bool) → ltb n e ≡ b → (d : Bool) → isEmpty q ≡ d → ConditionShaped l c (cond b (fetching (n + 1) e) (cond d normal (completed e))) q
       go true b d _ = fetching-shaped l c most q (n + 1) e (omega arith) (omega (arith, ltb-true n e b)) top
       go false b true d = normal-shaped l c most q d
       go false b false d = completed-shaped l c most q e top d
 
-pub fetched-shaped : (l c : ℕ) → c ≤ l → (n e : ℕ) (v : WindowView) → WindowShaped l c v → v .state ≡ fetching n e →
+pub fetched-shaped : (l c : ℕ) → c ≤ l → (n e : ℕ) (v : WindowView) → WindowShaped l c v → v .condition ≡ fetching n e →
     (b : Bool) → (b ≡ true → length (v .catchQueue) < 128) → WindowShaped l c (fetched b n e v)
 unfolding fetched
 fetched-shaped l c most n e v s is true room =
     let b = fetching-bounds s n e is in
     here-shaped l c _ (normalQueued s) (queued-push l n _ (room refl) (b .0) (omega (arith, b .1, b .2)) (catchQueued s)) (lined s)
-    (stateAfter-shaped l c most n e (b .0) (b .1) (b .2) _)
+    (conditionAfter-shaped l c most n e (b .0) (b .1) (b .2) _)
 fetched-shaped l c most n e v s is false room =
     let b = fetching-bounds s n e is in
-    here-shaped l c _ (normalQueued s) (catchQueued s) (lined s) (stateAfter-shaped l c most n e (b .0) (b .1) (b .2) _)
+    here-shaped l c _ (normalQueued s) (catchQueued s) (lined s) (conditionAfter-shaped l c most n e (b .0) (b .1) (b .2) _)

@@ -11,7 +11,7 @@ use lib.ListN.{length, getD, List·getD-eq-default}
 use lib.Seq.{set-getD, getD-set-other}
 use lib.Dec.{ltb, eqb}
 use Rattle.journal.specs.declared.Entry.{Entry}
-use Rattle.journal.specs.Cases.{le-or-lt}
+use Rattle.lists.specs.Cases.{le-or-lt}
 use Rattle.journal.specs.Entry.{countOf, entriesOf}
 use Rattle.rules.specs.declared.Term.{Term}
 use Rattle.rules.specs.View.{WindowView, PlayerView, noWindow}

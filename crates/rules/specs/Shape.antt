@@ -5,8 +5,8 @@ use mathlib.Core.Bool.{Bool, true, false, not, _&&_}
 use lib.ListN.{length}
 use lib.Dec.{leb}
 use Rattle.journal.specs.Entry.{inShape, countOf}
-use Rattle.queue.specs.Items.{all, queuedIn, heldIn}
-use Rattle.rules.specs.View.{State, normal, fetching, completed, suspended, WindowView, PlayerView}
+use Rattle.lists.specs.All.{all, queuedIn, heldIn}
+use Rattle.rules.specs.View.{Condition, normal, fetching, completed, suspended, WindowView, PlayerView}
 
 abbrev pub isEmpty : List ℕ → Bool
 isEmpty [] = true
@@ -28,38 +28,38 @@ abbrev pub queuedFit : ℕ → WindowView → Bool
 queuedFit l v = all (queuedIn l) (v .normalQueue) && all (queuedIn l) (v .catchQueue)
 
 -- any other held index is at most L
-abbrev pub stateHeld : ℕ → State → Bool
-stateHeld l normal = true
-stateHeld l (fetching n e) = leb n l && leb e l
-stateHeld l (completed e) = leb e l
-stateHeld l suspended = true
+abbrev pub conditionHeld : ℕ → Condition → Bool
+conditionHeld l normal = true
+conditionHeld l (fetching n e) = leb n l && leb e l
+conditionHeld l (completed e) = leb e l
+conditionHeld l suspended = true
 
 abbrev pub heldFit : ℕ → WindowView → Bool
-heldFit l v = leb (v .acked) l && (leb (v .sent) l && (all (heldIn l) (v .batches) && stateHeld l (v .state)))
+heldFit l v = leb (v .acked) l && (leb (v .sent) l && (all (heldIn l) (v .batches) && conditionHeld l (v .condition)))
 
 -- a Fetching next is 1 to its end
-abbrev pub nextFits : State → Bool
+abbrev pub nextFits : Condition → Bool
 nextFits normal = true
 nextFits (fetching n e) = leb 1 n && leb n e
 nextFits (completed e) = true
 nextFits suspended = true
 
 -- an end is at most `current`
-abbrev pub endFits : ℕ → State → Bool
+abbrev pub endFits : ℕ → Condition → Bool
 endFits current normal = true
 endFits current (fetching n e) = leb e current
 endFits current (completed e) = leb e current
 endFits current suspended = true
 
 -- a catch-up queue is empty in Normal and not empty in Completed
-abbrev pub catchUpFits : State → List ℕ → Bool
+abbrev pub catchUpFits : Condition → List ℕ → Bool
 catchUpFits normal q = isEmpty q
 catchUpFits (fetching n e) q = true
 catchUpFits (completed e) q = not (isEmpty q)
 catchUpFits suspended q = true
 
 -- nothing is queued or unacknowledged in Suspended
-abbrev pub suspendedFits : WindowView → State → Bool
+abbrev pub suspendedFits : WindowView → Condition → Bool
 suspendedFits v normal = true
 suspendedFits v (fetching n e) = true
 suspendedFits v (completed e) = true
@@ -71,7 +71,7 @@ windowShape l current v =
     lengthsFit v
     && (queuedFit l v
     && (heldFit l v
-    && (nextFits (v .state) && (endFits current (v .state) && (catchUpFits (v .state) (v .catchQueue) && suspendedFits v (v .state))))))
+    && (nextFits (v .condition) && (endFits current (v .condition) && (catchUpFits (v .condition) (v .catchQueue) && suspendedFits v (v .condition))))))
 
 unfoldable pub allWindows : (WindowView → Bool) → List WindowView → Bool
 allWindows p [] = true

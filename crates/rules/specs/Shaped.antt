@@ -7,11 +7,11 @@ use native.Mathlib.Omega.{arith}
 use borrow.Author.Tests.{leb-true, le-leb}
 use lib.ListN.{length, getD}
 use lib.Dec.{leb}
-use Rattle.journal.specs.Cases.{and-left, and-right, and-intro}
+use Rattle.lists.specs.Cases.{and-left, and-right, and-intro}
 use Rattle.journal.specs.Entry.{inShape, countOf}
-use Rattle.queue.specs.Items.{all, queuedIn, heldIn}
+use Rattle.lists.specs.All.{all, queuedIn, heldIn}
 use Rattle.rules.specs.View.{WindowView, PlayerView, noWindow}
-use Rattle.rules.specs.Shape.{lengthsFit, queuedFit, heldFit, countFits, limitFits, stateHeld, nextFits, endFits, catchUpFits, suspendedFits, windowShape, allWindows, shape}
+use Rattle.rules.specs.Shape.{lengthsFit, queuedFit, heldFit, countFits, limitFits, conditionHeld, nextFits, endFits, catchUpFits, suspendedFits, windowShape, allWindows, shape}
 use Rattle.rules.specs.Rules.{windowAt}
 
 -- ------------------------------------------------------------------------
@@ -27,11 +27,11 @@ pub record WindowShaped (l current : ℕ) (v : WindowView) : Type 0 where
   pub ackedIn : v .acked ≤ l
   pub sentIn : v .sent ≤ l
   pub batchesIn : all (heldIn l) (v .batches) ≡ true
-  pub stateIn : stateHeld l (v .state) ≡ true
-  pub next : nextFits (v .state) ≡ true
-  pub end : endFits current (v .state) ≡ true
-  pub catchUp : catchUpFits (v .state) (v .catchQueue) ≡ true
-  pub away : suspendedFits v (v .state) ≡ true
+  pub conditionIn : conditionHeld l (v .condition) ≡ true
+  pub next : nextFits (v .condition) ≡ true
+  pub end : endFits current (v .condition) ≡ true
+  pub catchUp : catchUpFits (v .condition) (v .catchQueue) ≡ true
+  pub away : suspendedFits v (v .condition) ≡ true
 
 pub windowShaped : (l current : ℕ) (v : WindowView) → windowShape l current v ≡ true → WindowShaped l current v
 unfolding windowShape
@@ -45,8 +45,8 @@ windowShaped l current v e =
     let e₃ = and-right (heldFit l v) _ e₂ in
     let c₁ = and-right (leb (v .acked) l) _ c in
     let c₂ = and-right (leb (v .sent) l) _ c₁ in
-    let e₄ = and-right (nextFits (v .state)) _ e₃ in
-    let e₅ = and-right (endFits current (v .state)) _ e₄ in
+    let e₄ = and-right (nextFits (v .condition)) _ e₃ in
+    let e₅ = and-right (endFits current (v .condition)) _ e₄ in
     record {
       normalFits = leb-true _ _ (and-left (leb (length (v .normalQueue)) 128) _ a);
       catchFits = leb-true _ _ (and-left (leb (length (v .catchQueue)) 128) _ a₁);
@@ -56,11 +56,11 @@ windowShaped l current v e =
       ackedIn = leb-true _ _ (and-left (leb (v .acked) l) _ c);
       sentIn = leb-true _ _ (and-left (leb (v .sent) l) _ c₁);
       batchesIn = and-left (all (heldIn l) (v .batches)) _ c₂;
-      stateIn = and-right (all (heldIn l) (v .batches)) _ c₂;
-      next = and-left (nextFits (v .state)) _ e₃;
-      end = and-left (endFits current (v .state)) _ e₄;
-      catchUp = and-left (catchUpFits (v .state) (v .catchQueue)) _ e₅;
-      away = and-right (catchUpFits (v .state) (v .catchQueue)) _ e₅;
+      conditionIn = and-right (all (heldIn l) (v .batches)) _ c₂;
+      next = and-left (nextFits (v .condition)) _ e₃;
+      end = and-left (endFits current (v .condition)) _ e₄;
+      catchUp = and-left (catchUpFits (v .condition) (v .catchQueue)) _ e₅;
+      away = and-right (catchUpFits (v .condition) (v .catchQueue)) _ e₅;
     }
 
 pub windowShape-of : (l current : ℕ) (v : WindowView) → WindowShaped l current v → windowShape l current v ≡ true
@@ -68,7 +68,7 @@ unfolding windowShape
 windowShape-of l current v s =
     and-intro (and-intro (le-leb _ _ (s .normalFits)) (and-intro (le-leb _ _ (s .catchFits)) (le-leb _ _ (s .batchesFit))))
     (and-intro (and-intro (s .normalIn) (s .catchIn))
-    (and-intro (and-intro (le-leb _ _ (s .ackedIn)) (and-intro (le-leb _ _ (s .sentIn)) (and-intro (s .batchesIn) (s .stateIn))))
+    (and-intro (and-intro (le-leb _ _ (s .ackedIn)) (and-intro (le-leb _ _ (s .sentIn)) (and-intro (s .batchesIn) (s .conditionIn))))
     (and-intro (s .next) (and-intro (s .end) (and-intro (s .catchUp) (s .away))))))
 
 -- ------------------------------------------------------------------------

@@ -9,7 +9,7 @@ use borrow.Author.Tests.{eqb-true, leb-true}
 use lib.ListN.{length, getD}
 use lib.Dec.{leb, eqb}
 use Rattle.journal.specs.declared.Entry.{Entry}
-use Rattle.journal.specs.Cases.{and-left, and-right}
+use Rattle.lists.specs.Cases.{and-left, and-right}
 use Rattle.journal.specs.Entry.{inShape, entriesOf}
 use Rattle.rules.specs.View.{PlayerView}
 use Rattle.rules.specs.Shape.{countFits, limitFits}

@@ -5,7 +5,7 @@ use mathlib.Core.List.{List, [], _∷_, _++_}
 use mathlib.Core.Bool.{true, false}
 use lib.ListN.{replicate}
 use Rattle.journal.specs.Entry.{entriesOf, numbersOf, entry4, entryAt, hasWindow, isFor}
-use Rattle.queue.specs.Items.{all}
+use Rattle.lists.specs.All.{all}
 use Rattle.rules.specs.View.{normal, fetching, suspended, WindowView, PlayerView}
 use Rattle.rules.specs.Shape.{windowShape, allWindows, shape}
 use Rattle.rules.specs.Window.{check, enqueue, mainAt, readyIn, batchOf, launched, sendAt, joinAt}
@@ -34,7 +34,7 @@ queueing q = record {
   batches = [];
   normalQueue = q;
   catchQueue = [];
-  state = normal;
+  condition = normal;
 }
 
 -- a Suspended window with an acknowledged and a sent index
@@ -47,7 +47,7 @@ away acked sent = record {
   batches = [];
   normalQueue = [];
   catchQueue = [];
-  state = suspended;
+  condition = suspended;
 }
 
 -- (b) Empty journal: Main gives 4
@@ -56,7 +56,7 @@ unfolding mainRule shape windowShape allWindows all
 row-b = refl
 
 -- (c) 128 queued, one more Main entry: Fetching
-pub row-c : windowAt 0 (mainRule (entriesFor0 129) 129 (oneWindow 128 (queueing (countUp 128))) .next) .state ≡ fetching 129 129
+pub row-c : windowAt 0 (mainRule (entriesFor0 129) 129 (oneWindow 128 (queueing (countUp 128))) .next) .condition ≡ fetching 129 129
 unfolding mainRule shape windowShape allWindows all numbersOf countUp mapWindows mainAt enqueue isFor entryAt hasWindow entriesOf
 row-c = refl
 
@@ -75,7 +75,7 @@ outEight = record {
   batches = countUp 8;
   normalQueue = 9 ∷ [];
   catchQueue = [];
-  state = normal;
+  condition = normal;
 }
 
 -- (e) Eight batches out, line free: Send 9
@@ -92,7 +92,7 @@ row-f = (refl, refl, refl)
 
 -- (g) Report equal to sent: joined; sent + 1: 13
 pub row-g : (joinRule (entriesFor0 9) 0 5 (oneWindow 9 (away 3 5)) .answer ≡ 0)
-    × (windowAt 0 (joinRule (entriesFor0 9) 0 5 (oneWindow 9 (away 3 5)) .next) .state ≡ fetching 6 9)
+    × (windowAt 0 (joinRule (entriesFor0 9) 0 5 (oneWindow 9 (away 3 5)) .next) .condition ≡ fetching 6 9)
     × (joinRule (entriesFor0 9) 0 6 (oneWindow 9 (away 3 5)) .answer ≡ 13)
 unfolding joinRule operate shape windowShape allWindows all numbersOf check joinAt isFor entryAt hasWindow entriesOf
 row-g = (refl, refl, refl)

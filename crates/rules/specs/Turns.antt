@@ -8,10 +8,10 @@ use borrow.Author.Tests.{eqb-true, leb-false, ltb-false, eq-eqb, lt-leb, le-ltb,
 use lib.ListN.{length}
 use lib.Dec.{ltb}
 use Rattle.journal.specs.declared.Entry.{Entry}
-use Rattle.journal.specs.Cases.{and-other, or-left, or-right}
-use Rattle.journal.specs.Due.{elem}
+use Rattle.lists.specs.Cases.{and-other, or-left, or-right}
+use Rattle.lists.specs.Elem.{elem}
 use Rattle.rules.specs.declared.Term.{Term}
-use Rattle.rules.specs.View.{State, normal, fetching, completed, suspended, WindowView}
+use Rattle.rules.specs.View.{Condition, normal, fetching, completed, suspended, WindowView}
 use Rattle.rules.specs.Shape.{isEmpty}
 use Rattle.rules.specs.Window.{Turn, done, refusal, check, isSuspended, otherTerm, wanted, fetched, catchIn, catchAt, batchOf, launched, sendAt, freed, writtenAt, acknowledged, ackAt, dropped, dropAt, isReport, joined, joinAt}
 
@@ -61,7 +61,7 @@ otherTerm-own v = simp (eq-eqb (v .term .0) (v .term .0) refl)
 -- ------------------------------------------------------------------------
 -- Catch
 
-catchIn-refuses : (s : State) (j : List Entry) (w i : ℕ) (v : WindowView) → Refuses v (catchIn s j w i v)
+catchIn-refuses : (s : Condition) (j : List Entry) (w i : ℕ) (v : WindowView) → Refuses v (catchIn s j w i v)
 unfolding catchIn
 catchIn-refuses normal j w i v = λ h. refl
 catchIn-refuses (fetching n e) j w i v = check-refuses _ 6 v _ (check-refuses _ 10 v _ (done-refuses v _))
@@ -70,17 +70,17 @@ catchIn-refuses suspended j w i v = λ h. refl
 
 pub catchAt-refuses : (j : List Entry) (w : ℕ) (t : Term) (i : ℕ) (v : WindowView) → Refuses v (catchAt j w t i v)
 unfolding catchAt
-catchAt-refuses j w t i v = check-refuses _ 3 v _ (check-refuses _ 5 v _ (catchIn-refuses (v .state) j w i v))
+catchAt-refuses j w t i v = check-refuses _ 3 v _ (check-refuses _ 5 v _ (catchIn-refuses (v .condition) j w i v))
 
 -- the window was Fetching, the offer was of its term and its next index, and there was room for a wanted entry
 pub record Caught (j : List Entry) (w : ℕ) (t : Term) (i : ℕ) (v : WindowView) : Type 0 where
   pub upto : ℕ
-  pub was : v .state ≡ fetching i upto
+  pub was : v .condition ≡ fetching i upto
   pub term : t .0 ≡ v .term .0
   pub room : wanted j w i v ≡ true → length (v .catchQueue) < 128
   pub next : catchAt j w t i v .next ≡ fetched (wanted j w i v) i upto v
 
-catchIn-done : (s : State) (j : List Entry) (w : ℕ) (t : Term) (i : ℕ) (v : WindowView) → v .state ≡ s → t .0 ≡ v .term .0 →
+catchIn-done : (s : Condition) (j : List Entry) (w : ℕ) (t : Term) (i : ℕ) (v : WindowView) → v .condition ≡ s → t .0 ≡ v .term .0 →
     catchAt j w t i v ≡ catchIn s j w i v → catchIn s j w i v .answer ≡ 0 → Caught j w t i v
 unfolding catchIn
 catchIn-done normal j w t i v is same r e = absurd (omega arith)
@@ -103,10 +103,10 @@ unfolding catchAt
 catchAt-done j w t i v e =
     let p = check-passed _ 2 v _ e in
     let q = check-passed _ 4 v _ (p .rest) in
-    catchIn-done (v .state) j w t i v refl (otherTerm-same t v (q .test)) (p .same ∙ q .same) (q .rest)
+    catchIn-done (v .condition) j w t i v refl (otherTerm-same t v (q .test)) (p .same ∙ q .same) (q .rest)
 
 -- a Fetching window takes an offer of its term and its next index while there is room
-pub catchAt-can : (j : List Entry) (w : ℕ) (v : WindowView) (n end : ℕ) → v .state ≡ fetching n end → length (v .catchQueue) < 128 →
+pub catchAt-can : (j : List Entry) (w : ℕ) (v : WindowView) (n end : ℕ) → v .condition ≡ fetching n end → length (v .catchQueue) < 128 →
     catchAt j w (v .term) n v ≡ done (fetched (wanted j w n v) n end v)
 unfolding catchAt catchIn
 catchAt-can j w v n end is room =
@@ -127,7 +127,7 @@ sendAt-refuses limit size v =
 
 -- the window was not Suspended, its line was free, a batch could go out, and something was ready
 pub record SentOut (limit size : ℕ) (v : WindowView) : Type 0 where
-  pub here : isSuspended (v .state) ≡ false
+  pub here : isSuspended (v .condition) ≡ false
   pub free : v .busy ≡ false
   pub few : length (v .batches) < 8
   pub room : 5 * limit ≤ size
@@ -151,7 +151,7 @@ sendAt-done limit size v e =
       next = ap (λ x. x .next) (a .same ∙ b .same ∙ c .same ∙ d .same ∙ f .same);
     }
 
-pub sendAt-can : (limit size : ℕ) (v : WindowView) → isSuspended (v .state) ≡ false → v .busy ≡ false → length (v .batches) < 8 → 5 * limit ≤ size →
+pub sendAt-can : (limit size : ℕ) (v : WindowView) → isSuspended (v .condition) ≡ false → v .busy ≡ false → length (v .batches) < 8 → 5 * limit ≤ size →
     isEmpty (batchOf limit v .indices) ≡ false → sendAt limit size v ≡ done (launched (batchOf limit v))
 unfolding sendAt
 sendAt-can limit size v here free few room some =
@@ -169,7 +169,7 @@ unfolding writtenAt
 writtenAt-refuses t v = check-refuses _ 3 v _ (check-refuses _ 5 v _ (check-refuses _ 8 v _ (done-refuses v _)))
 
 pub record WrittenOff (t : Term) (v : WindowView) : Type 0 where
-  pub here : isSuspended (v .state) ≡ false
+  pub here : isSuspended (v .condition) ≡ false
   pub term : t .0 ≡ v .term .0
   pub was : v .busy ≡ true
   pub next : writtenAt t v .next ≡ freed v
@@ -187,7 +187,7 @@ writtenAt-done t v e =
       next = ap (λ x. x .next) (a .same ∙ b .same ∙ c .same);
     }
 
-pub writtenAt-can : (v : WindowView) → isSuspended (v .state) ≡ false → v .busy ≡ true → writtenAt (v .term) v ≡ done (freed v)
+pub writtenAt-can : (v : WindowView) → isSuspended (v .condition) ≡ false → v .busy ≡ true → writtenAt (v .term) v ≡ done (freed v)
 unfolding writtenAt
 writtenAt-can v here was = check-no _ 3 v _ here ∙ check-no _ 5 v _ (otherTerm-own v) ∙ check-no _ 8 v _ (ap not was)
 
@@ -199,7 +199,7 @@ unfolding ackAt
 ackAt-refuses t i v = check-refuses _ 3 v _ (check-refuses _ 5 v _ (check-refuses _ 11 v _ (done-refuses v _)))
 
 pub record AckTaken (t : Term) (i : ℕ) (v : WindowView) : Type 0 where
-  pub here : isSuspended (v .state) ≡ false
+  pub here : isSuspended (v .condition) ≡ false
   pub term : t .0 ≡ v .term .0
   pub out : elem i (v .batches) ≡ true
   pub next : ackAt t i v .next ≡ acknowledged i v
@@ -217,7 +217,7 @@ ackAt-done t i v e =
       next = ap (λ x. x .next) (a .same ∙ b .same ∙ c .same);
     }
 
-pub ackAt-can : (i : ℕ) (v : WindowView) → isSuspended (v .state) ≡ false → elem i (v .batches) ≡ true → ackAt (v .term) i v ≡ done (acknowledged i v)
+pub ackAt-can : (i : ℕ) (v : WindowView) → isSuspended (v .condition) ≡ false → elem i (v .batches) ≡ true → ackAt (v .term) i v ≡ done (acknowledged i v)
 unfolding ackAt
 ackAt-can i v here out = check-no _ 3 v _ here ∙ check-no _ 5 v _ (otherTerm-own v) ∙ check-no _ 11 v _ (ap not out)
 
@@ -229,7 +229,7 @@ unfolding dropAt
 dropAt-refuses v = check-refuses _ 3 v _ (done-refuses v _)
 
 pub record DroppedOff (v : WindowView) : Type 0 where
-  pub here : isSuspended (v .state) ≡ false
+  pub here : isSuspended (v .condition) ≡ false
   pub next : dropAt v .next ≡ dropped v
 
 pub dropAt-done : (v : WindowView) → dropAt v .answer ≡ 0 → DroppedOff v
@@ -244,7 +244,7 @@ unfolding joinAt
 joinAt-refuses j w current r v = check-refuses _ 12 v _ (check-refuses _ 14 v _ (check-refuses _ 13 v _ (done-refuses v _)))
 
 pub record JoinedOn (j : List Entry) (w current r : ℕ) (v : WindowView) : Type 0 where
-  pub away : isSuspended (v .state) ≡ true
+  pub away : isSuspended (v .condition) ≡ true
   pub least : v .acked ≤ r
   pub most : r ≤ v .sent
   pub report : isReport j w r ≡ true

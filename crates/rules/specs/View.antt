@@ -6,11 +6,11 @@ use mathlib.Core.Bool.{Bool, false}
 use Rattle.rules.specs.declared.Term.{Term}
 
 -- Normal; Fetching, with the next and the end index; Completed, with the end; Suspended
-pub data State : Type 0 where
-  normal : State
-  fetching : ℕ → ℕ → State
-  completed : ℕ → State
-  suspended : State
+pub data Condition : Type 0 where
+  normal : Condition
+  fetching : ℕ → ℕ → Condition
+  completed : ℕ → Condition
+  suspended : Condition
 
 -- a window as the player holds it. Indices are numbers here, and a term keeps its own type: nothing can add or compare the two
 pub record WindowView : Type 0 where
@@ -21,7 +21,7 @@ pub record WindowView : Type 0 where
   pub batches : List ℕ
   pub normalQueue : List ℕ
   pub catchQueue : List ℕ
-  pub state : State
+  pub condition : Condition
 
 -- what stands where there is no window
 abbrev pub noWindow : WindowView
@@ -33,7 +33,7 @@ noWindow = record {
   batches = [];
   normalQueue = [];
   catchQueue = [];
-  state = suspended;
+  condition = suspended;
 }
 
 -- the player: the batch limit, `current`, and the windows, W of them

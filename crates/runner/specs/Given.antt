@@ -1,6 +1,6 @@
 -- The step that a line of the runner's input orders.
-use Rattle.steps.specs.declared.Order.{Order}
-use Rattle.steps.specs.declared.Order.the-variants.{Main, Catch, Send, Written, Ack, Drop, Join, Take, Bad}
+use Rattle.script_line.specs.declared.Order.{Order}
+use Rattle.script_line.specs.declared.Order.the-variants.{Main, Catch, Send, Written, Ack, Drop, Join, Take, Bad}
 use Rattle.script.specs.declared.Step.the-variants as Step
 use Rattle.runner.specs.declared.step.Given.{Given}
 use Rattle.runner.specs.declared.step.Given.the-variants as Given

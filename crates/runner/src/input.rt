@@ -77,7 +77,7 @@ pub(crate) fn find_run(fd: i32, buf: &mut [u8]) -> Run
                 return Run { at, next: at, end };
             }
             end += got;
-        } else if steps::is_run(&buf[at..lf]) {
+        } else if script_line::is_run(&buf[at..lf]) {
             return Run {
                 at,
                 next: lf + 1,

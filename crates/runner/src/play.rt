@@ -8,7 +8,7 @@ use crate::step::Given;
 use crate::step::step_in;
 use journal_text::Reading;
 use script::Stage;
-use steps::Windows;
+use script_line::Windows;
 ghost use Prim.Native.Nat.{_≤_};
 ghost use Rattle.runner.specs.Places.{Places, Waiting};
 
@@ -35,7 +35,7 @@ fn play_head(fd: i32, buf: &mut [u8], run: Run, out: &mut [u8])
         refuse(out, 0);
         return;
     }
-    let Windows::Count(count) = steps::read_windows(&buf[0..first]) else {
+    let Windows::Count(count) = script_line::read_windows(&buf[0..first]) else {
         refuse(out, 0);
         return;
     };

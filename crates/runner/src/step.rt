@@ -1,8 +1,8 @@
 // The step that a line of the input orders.
 use script::Step;
-use steps::Order;
+use script_line::Order;
 ghost use mathlib.Core.Path.{_≡_};
-ghost use Rattle.steps.specs.Line.{orderOf};
+ghost use Rattle.script_line.specs.Line.{orderOf};
 ghost use Rattle.runner.specs.Given.{givenBy};
 
 // A step, or that its line is malformed.
@@ -32,5 +32,5 @@ fn step_of(order: Order) -> Given
 pub(crate) fn step_in(line: &[u8]) -> Given
     ensures { λ r. ⌜ r ≡ givenBy (orderOf (now (line .entry))) ⌝ }
 {
-    step_of(steps::read_step(line))
+    step_of(script_line::read_step(line))
 }

@@ -7,7 +7,7 @@ use native.Mathlib.Omega.{arith}
 use borrow.Author.Tests.{leb-true, lt-leb}
 use lib.ListN.{length}
 use lib.Dec.{leb}
-use Rattle.journal.specs.Cases.{and-left, and-right}
+use Rattle.lists.specs.Cases.{and-left, and-right}
 use Rattle.journal.specs.Entry.{inShape, entriesOf}
 use Rattle.queue.specs.Items.{itemsOf}
 use Rattle.rules.specs.declared.Term.{Term}
@@ -15,10 +15,10 @@ use Rattle.player.specs.declared.Played.{Played}
 use Rattle.rules.specs.View.{PlayerView}
 use Rattle.player.specs.View.{playerOf}
 use Rattle.rules.specs.Shape.{shape}
-use Rattle.rules.specs.Shaped.{shaped}
+use Rattle.rules.specs.Offers.{shaped}
 use Rattle.player.specs.InShape.{inShape-entries}
 use Rattle.rules.specs.Rules.{Outcome, windowAt, mainRule, catchRule, writtenRule, dropRule}
-use Rattle.player.specs.Promise.{Keeps}
+use Rattle.player.specs.Promise.{Meets}
 use Rattle.delivery.specs.World.{numbersIn, playerIn, answered, called}
 use Rattle.delivery.specs.World as W
 use Rattle.script.specs.declared.Stage.{Stage}
@@ -27,7 +27,7 @@ use Rattle.script.specs.declared.Step.the-variants.{Main, Catch, Written
 use Rattle.script.specs.Stage.{worldOf, forgotten, dueIn, stepIn, windowOf}
 use Rattle.script.specs.Promise.{playable, Playable, Steps}
 use Rattle.script.specs.Stored.{trackAt, calledBy}
-use Rattle.script.specs.Places.{termsOf}
+use Rattle.script.specs.Sides.{termsOf}
 use Rattle.script.specs.Worlds.{worldOf-numbers, Staged, worldOf-player, worldOf-view, worldOf-called}
 use Rattle.script.specs.Terms.{mainRule-terms, catchRule-terms, writtenRule-terms, dropRule-terms}
 
@@ -55,7 +55,7 @@ module _ (ns : List ℕ) (s : Stage) (h : Staged s) (e : inShape ns ≡ true) wh
   rule-here f = ap₂ f (worldOf-numbers ns s e) (worldOf-player (entriesOf ns) s h)
 
   called-steps : (st : Step) (r : Played) (o : Outcome) →
-      W.step (stepIn (worldOf (entriesOf ns) s) st) (worldOf (entriesOf ns) s) ≡ called o (worldOf (entriesOf ns) s) → Keeps (s .player) r o →
+      W.step (stepIn (worldOf (entriesOf ns) s) st) (worldOf (entriesOf ns) s) ≡ called o (worldOf (entriesOf ns) s) → Meets (s .player) r o →
       termsOf (o .next .windows) ≡ termsOf (playerOf (s .player) .windows) → Steps (entriesOf ns) s st (calledBy s r)
   called-steps st r o is k same = record {
     reply = ap answered (k .answer) ∙ sym (ap (λ x. x .reply) is);
@@ -72,7 +72,7 @@ module _ (ns : List ℕ) (s : Stage) (h : Staged s) (e : inShape ns ≡ true) wh
       go false g = simp g
 
   pub main-steps : (i : ℕ) (r : Played) → (s .player .current .0 < 4294967295 → i ≡ s .player .current .0 + 1) →
-      Keeps (s .player) r (mainRule ns i (playerOf (s .player))) → Steps (entriesOf ns) s Main (calledBy s r)
+      Meets (s .player) r (mainRule ns i (playerOf (s .player))) → Steps (entriesOf ns) s Main (calledBy s r)
   unfolding W.step worldOf playerOf
   main-steps i r due k =
       called-steps Main r (mainRule ns i (playerOf (s .player)))
@@ -81,17 +81,17 @@ module _ (ns : List ℕ) (s : Stage) (h : Staged s) (e : inShape ns ≡ true) wh
       k (mainRule-terms ns i (playerOf (s .player)))
 
   module _ (w : ℕ) (r : Played) where
-    pub catch-steps : (t : Term) (i : ℕ) → t ≡ windowAt w (playerOf (s .player)) .term → i ≡ dueIn (windowAt w (playerOf (s .player)) .state) →
-        Keeps (s .player) r (catchRule ns w t i (playerOf (s .player))) → Steps (entriesOf ns) s (Catch w) (calledBy s r)
+    pub catch-steps : (t : Term) (i : ℕ) → t ≡ windowAt w (playerOf (s .player)) .term → i ≡ dueIn (windowAt w (playerOf (s .player)) .condition) →
+        Meets (s .player) r (catchRule ns w t i (playerOf (s .player))) → Steps (entriesOf ns) s (Catch w) (calledBy s r)
     unfolding W.step
     catch-steps t i current due k =
         called-steps (Catch w) r (catchRule ns w t i (playerOf (s .player)))
-        (ap (λ v. W.step (W.catch w (v .term) (dueIn (v .state))) (worldOf (entriesOf ns) s)) (worldOf-view (entriesOf ns) s h w)
+        (ap (λ v. W.step (W.catch w (v .term) (dueIn (v .condition))) (worldOf (entriesOf ns) s)) (worldOf-view (entriesOf ns) s h w)
         ∙ ap₂ (λ t i. W.step (W.catch w t i) (worldOf (entriesOf ns) s)) (sym current) (sym due)
         ∙ ap (λ o. called o (worldOf (entriesOf ns) s)) (rule-here (λ n p. catchRule n w t i p)))
         k (catchRule-terms ns w t i (playerOf (s .player)))
 
-    pub written-steps : (t : Term) → t ≡ windowAt w (playerOf (s .player)) .term → Keeps (s .player) r (writtenRule ns w t (playerOf (s .player))) →
+    pub written-steps : (t : Term) → t ≡ windowAt w (playerOf (s .player)) .term → Meets (s .player) r (writtenRule ns w t (playerOf (s .player))) →
         Steps (entriesOf ns) s (Written w) (calledBy s r)
     unfolding W.step
     written-steps t current k =
@@ -101,7 +101,7 @@ module _ (ns : List ℕ) (s : Stage) (h : Staged s) (e : inShape ns ≡ true) wh
         ∙ ap (λ o. called o (worldOf (entriesOf ns) s)) (rule-here (λ n p. writtenRule n w t p)))
         k (writtenRule-terms ns w t (playerOf (s .player)))
 
-    pub drop-steps : Keeps (s .player) r (dropRule ns w (playerOf (s .player))) → Steps (entriesOf ns) s (Drop w) (calledBy s r)
+    pub drop-steps : Meets (s .player) r (dropRule ns w (playerOf (s .player))) → Steps (entriesOf ns) s (Drop w) (calledBy s r)
     unfolding W.step
     drop-steps k =
         called-steps (Drop w) r (dropRule ns w (playerOf (s .player)))

@@ -2,7 +2,7 @@
 pub mod Stage
 pub mod Promise
 pub mod Stored
-pub mod Places
+pub mod Sides
 pub mod Worlds
 pub mod Terms
 pub mod Calls

@@ -8,11 +8,11 @@ use borrow.Author.Tests.{eqb-true, eqb-false, lt-leb}
 use lib.ListN.{length, take, replicate, length-replicate, length-map}
 use lib.Dec.{eqb, leb}
 use Rattle.journal.specs.declared.Entry.{Entry}
-use Rattle.journal.specs.Cases.{and-left}
+use Rattle.lists.specs.Cases.{and-left}
 use Rattle.journal.specs.Entry.{inShape, entriesOf}
 use Rattle.queue.specs.Items.{freshQueue}
 use Rattle.queue.specs.Laws.{itemsOf-fresh}
-use Rattle.window.specs.Record.{newRecord}
+use Rattle.record.specs.Record.{newRecord}
 use Rattle.player.specs.declared.Player.{Player}
 use Rattle.player.specs.declared.Played.{Played}
 use Rattle.rules.specs.View.{WindowView, PlayerView}
@@ -20,15 +20,15 @@ use Rattle.player.specs.View.{playerOf}
 use Rattle.rules.specs.Shape.{countFits, limitFits}
 use Rattle.rules.specs.Window.{started}
 use Rattle.rules.specs.Rules.{refuse, areReports, least, startRule}
-use Rattle.rules.specs.Starts.{startNext, startRule-done}
-use Rattle.held.specs.Promise.{numberOf}
-use Rattle.player.specs.Promise.{Keeps}
-use Rattle.delivery.specs.World.{World, newPlace, opened}
+use Rattle.rules.specs.Offers.{startNext, startRule-done}
+use Rattle.window.specs.Promise.{numberOf}
+use Rattle.player.specs.Promise.{Meets}
+use Rattle.delivery.specs.World.{World, newSide, opened}
 use Rattle.delivery.specs.Statement.{firstStart}
 use Rattle.script.specs.declared.Track.{Track}
 use Rattle.script.specs.declared.Stage.{Stage}
 use Rattle.script.specs.declared.Opened.{Opened}
-use Rattle.script.specs.Stage.{placeOf, placesOf, worldOf}
+use Rattle.script.specs.Stage.{sideOf, sidesOf, worldOf}
 use Rattle.journal.specs.EntryLaws.{numbersOf-entriesOf}
 
 -- empty lines
@@ -40,7 +40,7 @@ abbrev pub noPlayer : PlayerView
 noPlayer = record { limit = 0; current = 0; windows = [] }
 
 abbrev pub noWorld : List Entry → World
-noWorld j = record { journal = j; limit = 0; current = 0; places = [] }
+noWorld j = record { journal = j; limit = 0; current = 0; sides = [] }
 
 -- The stage is opened where the first Start is answered 0, and is then the world after it, whatever a player held before; where it is not
 -- opened it has no windows
@@ -50,15 +50,15 @@ pub record Opens (ns : List ℕ) (count : ℕ) (r : Opened) : Type 0 where
   pub shut : r .ok ≡ false → worldOf (entriesOf ns) (r .stage) ≡ noWorld (entriesOf ns)
 
 -- ------------------------------------------------------------------------
--- placesOf
+-- sidesOf
 
 -- new records and empty lines
-placesOf-new : (j : List Entry) (n : ℕ) (vs : List WindowView) → length vs ≤ n → placesOf j vs (replicate n newRecord) (replicate n freshTrack) ≡ map newPlace vs
-unfolding placesOf
-placesOf-new j n [] h = refl
-placesOf-new j zero (v ∷ vs) h = absurd (omega arith)
-placesOf-new j (suc n) (v ∷ vs) h =
-    ap₂ _∷_ (ap (λ xs. placeOf j v newRecord xs xs) itemsOf-fresh) (placesOf-new j n vs (omega arith))
+sidesOf-new : (j : List Entry) (n : ℕ) (vs : List WindowView) → length vs ≤ n → sidesOf j vs (replicate n newRecord) (replicate n freshTrack) ≡ map newSide vs
+unfolding sidesOf
+sidesOf-new j n [] h = refl
+sidesOf-new j zero (v ∷ vs) h = absurd (omega arith)
+sidesOf-new j (suc n) (v ∷ vs) h =
+    ap₂ _∷_ (ap (λ xs. sideOf j v newRecord xs xs) itemsOf-fresh) (sidesOf-new j n vs (omega arith))
 
 -- ------------------------------------------------------------------------
 -- startRule
@@ -102,9 +102,9 @@ abbrev pub aroundPlayer : Player → Stage
 aroundPlayer p = record { player = p; records = replicate 16 newRecord; tracks = replicate 16 freshTrack }
 
 shut-world : (j : List Entry) (p : Player) → playerOf p ≡ noPlayer → worldOf j (aroundPlayer p) ≡ noWorld j
-unfolding worldOf placesOf
+unfolding worldOf sidesOf
 shut-world j p e =
-    ap (λ q. record { journal = j; limit = q .limit; current = q .current; places = placesOf j (q .windows) (replicate 16 newRecord) (replicate 16 freshTrack) })
+    ap (λ q. record { journal = j; limit = q .limit; current = q .current; sides = sidesOf j (q .windows) (replicate 16 newRecord) (replicate 16 freshTrack) })
     e
 
 module _ (ns : List ℕ) (count : ℕ) where
@@ -116,7 +116,7 @@ module _ (ns : List ℕ) (count : ℕ) where
   }
 
   pub opens-start : (p : Player) → playerOf p ≡ noPlayer → (r : Played) (reports : List ℕ) → count ≤ 16 → reports ≡ take {A = ℕ} count (replicate 16 0) →
-      Keeps p r (startRule ns count 2 reports (playerOf p)) →
+      Meets p r (startRule ns count 2 reports (playerOf p)) →
       Opens ns count (record { ok = eqb (numberOf (r .answer)) 0; stage = aroundPlayer (r .player) })
   unfolding worldOf opened
   opens-start p b r reports h e k =
@@ -130,13 +130,13 @@ module _ (ns : List ℕ) (count : ℕ) where
             let d = startRule-done ns count 2 reports (playerOf p) (sym (k .answer) ∙ zero) in
             let f = startRule-done ns count 2 (replicate count 0) before (sym (same before) ∙ zero) in
             let ns′ = numbersOf-entriesOf ns (eqb-true _ _ (and-left _ _ (d .given .journal))) in
-            ap (λ q. record { journal = entriesOf ns; limit = q .limit; current = q .current; places = placesOf (entriesOf ns) (q .windows) (replicate 16 newRecord) (replicate 16 freshTrack) })
+            ap (λ q. record { journal = entriesOf ns; limit = q .limit; current = q .current; sides = sidesOf (entriesOf ns) (q .windows) (replicate 16 newRecord) (replicate 16 freshTrack) })
             (k .next ∙ d .next ∙ ap (startNext 2) zeros)
-            ∙ ap (λ ps. record { journal = entriesOf ns; limit = 2; current = least (replicate count 0); places = ps })
-            (placesOf-new (entriesOf ns) 16 (map started (replicate count 0)) (simp (length-map, length-replicate) h))
-            ∙ ap (λ q. record { journal = entriesOf ns; limit = q .limit; current = q .current; places = map newPlace (q .windows) })
+            ∙ ap (λ ps. record { journal = entriesOf ns; limit = 2; current = least (replicate count 0); sides = ps })
+            (sidesOf-new (entriesOf ns) 16 (map started (replicate count 0)) (simp (length-map, length-replicate) h))
+            ∙ ap (λ q. record { journal = entriesOf ns; limit = q .limit; current = q .current; sides = map newSide (q .windows) })
             (sym (ap (λ x. startRule x count 2 (replicate count 0) before .next) ns′ ∙ f .next));
         shut = λ z.
-            ap (λ q. worldOf (entriesOf ns) (aroundPlayer q)) (k .kept (λ n. eqb-false _ _ z (k .answer ∙ n)))
+            ap (λ q. worldOf (entriesOf ns) (aroundPlayer q)) (k .unchanged (λ n. eqb-false _ _ z (k .answer ∙ n)))
             ∙ shut-world (entriesOf ns) p b;
       }

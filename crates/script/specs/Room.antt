@@ -9,20 +9,19 @@ use native.Mathlib.Omega.{arith}
 use lib.ListN.{length, replicate, length-append, length-map, List·getD-map}
 use lib.Dec.{eqb, ltb}
 use Rattle.journal.specs.declared.Entry.{Entry}
-use Rattle.journal.specs.Cases.{eq-or-ne}
+use Rattle.lists.specs.Cases.{eq-or-ne}
 use Rattle.journal.specs.Entry.{numbersOf, entriesOf}
 use Rattle.rules.specs.declared.Term.{Term}
 use Rattle.rules.specs.View.{WindowView, PlayerView, noWindow}
 use Rattle.rules.specs.Window.{batchOf, sendAt, ackAt, joinAt}
 use Rattle.rules.specs.Rules.{Outcome, catchRule, writtenRule, ackRule, dropRule, joinRule, sendRule}
-use Rattle.rules.specs.Laws.{operate-limit, mainRule-cases}
-use Rattle.rules.specs.Starts.{startRule-done}
-use Rattle.delivery.specs.World.{Sent, Ack, Place, World, placeAt, numbersIn, playerIn, withLines, withPlayer, withPlace, onLine, takeFront, answered, calledThen, launch, takeAtLine, ackAtLine, cleared, newPlace, opened}
+use Rattle.rules.specs.Offers.{operate-limit, mainRule-cases, startRule-done}
+use Rattle.delivery.specs.World.{Sent, Ack, Side, World, sideAt, numbersIn, playerIn, withLines, withPlayer, withSide, onLine, takeFront, answered, calledThen, launch, takeAtLine, ackAtLine, cleared, newSide, opened}
 use Rattle.delivery.specs.World as W
 use Rattle.delivery.specs.Statement.{firstStart}
 use Rattle.delivery.specs.Invariant.{backIndices, endsOf, Inv, Reached}
 use Rattle.delivery.specs.Lines.{endsOf-append, onLine-ends}
-use Rattle.delivery.specs.Worlds.{withPlace-here, withPlace-other, withPlace-count}
+use Rattle.delivery.specs.Worlds.{withSide-here, withSide-other, withSide-count}
 use Rattle.delivery.specs.Effects.{Worked, caught, sent, written, took, acked, stays, mains, works, Facts, working, dropping, joining, starting, appending}
 use Rattle.delivery.specs.SteppedAll.{step-facts}
 use Rattle.delivery.specs.Reach.{reached-step}
@@ -67,17 +66,17 @@ pairs-length _ (two {l = l} e f p) = rw (e, f) (omega (arith, pairs-length l p))
 -- Roomy
 
 -- a window's lines
-pub record RoomyPlace (p : Place) : Type 0 where
+pub record RoomySide (p : Side) : Type 0 where
   pub pairs : Pairs (p .line)
   pub batches : length (endsOf (p .line)) + length (p .back) ≤ 8
 
 pub record Roomy (wd : World) : Type 0 where
   pub reached : Reached wd
   pub limit : wd .limit ≤ 2
-  pub each : (w : ℕ) → w < length (wd .places) → RoomyPlace (placeAt w wd)
+  pub each : (w : ℕ) → w < length (wd .sides) → RoomySide (sideAt w wd)
 
 -- so a line has at most 16 entries, and the line back at most 8 acks
-pub roomy-line : (p : Place) → RoomyPlace p → (length (p .line) ≤ 16) × (length (p .back) ≤ 8)
+pub roomy-line : (p : Side) → RoomySide p → (length (p .line) ≤ 16) × (length (p .back) ≤ 8)
 roomy-line p r =
     let n = pairs-length (p .line) (r .pairs) in
     let b = r .batches in
@@ -87,7 +86,7 @@ roomy-line p r =
 -- the work of one window
 
 -- one entry off the line, and an ack more where it was the last of its batch
-took-roomy : (s : Sent) (rest : List Sent) (p : Place) → p .line ≡ s ∷ rest → RoomyPlace p → RoomyPlace (takeFront s rest p)
+took-roomy : (s : Sent) (rest : List Sent) (p : Side) → p .line ≡ s ∷ rest → RoomySide p → RoomySide (takeFront s rest p)
 unfolding takeFront endsOf
 took-roomy s rest p e r = record {
   pairs = pairs-rest s rest (subst Pairs e (r .pairs));
@@ -99,7 +98,7 @@ took-roomy s rest p e r = record {
     by true h = simp length-append (omega arith)
     by false h = h
 
-worked-roomy : (j : List Entry) (c limit w : ℕ) (p p′ : Place) → limit ≤ 2 → Inv j c w p → RoomyPlace p → Worked j limit w p p′ → RoomyPlace p′
+worked-roomy : (j : List Entry) (c limit w : ℕ) (p p′ : Side) → limit ≤ 2 → Inv j c w p → RoomySide p → Worked j limit w p p′ → RoomySide p′
 worked-roomy j c limit w p p′ few inv r (caught t i d e) = rw e (record { pairs = r .pairs; batches = r .batches })
 worked-roomy j c limit w p p′ few inv r (written t d e) = rw e (record { pairs = r .pairs; batches = r .batches })
 worked-roomy j c limit w p p′ few inv r (took s rest front e) = rw e (took-roomy s rest p front r)
@@ -147,23 +146,23 @@ stepIn-scripted wd (Drop w) = refl
 stepIn-scripted wd (Join w) = refl
 stepIn-scripted wd (Take w) = refl
 
--- a place replaced
-placed-roomy : (wd : World) (v : ℕ) (p : Place) → v < length (wd .places) → ((w : ℕ) → w < length (wd .places) → RoomyPlace (placeAt w wd)) → RoomyPlace p →
-    (w : ℕ) → w < length (withPlace v p wd .places) → RoomyPlace (placeAt w (withPlace v p wd))
+-- a side replaced
+placed-roomy : (wd : World) (v : ℕ) (p : Side) → v < length (wd .sides) → ((w : ℕ) → w < length (wd .sides) → RoomySide (sideAt w wd)) → RoomySide p →
+    (w : ℕ) → w < length (withSide v p wd .sides) → RoomySide (sideAt w (withSide v p wd))
 placed-roomy wd v p l each r w h =
     ⊎-elim
-    (λ (e : w ≡ v). subst⁻¹ (λ w. RoomyPlace (placeAt w (withPlace v p wd))) e (subst⁻¹ RoomyPlace (withPlace-here v p wd l) r))
-    (λ (n : w ≡ v → ⊥). subst⁻¹ RoomyPlace (withPlace-other v w p wd n) (each w (omega (arith, withPlace-count v p wd))))
+    (λ (e : w ≡ v). subst⁻¹ (λ w. RoomySide (sideAt w (withSide v p wd))) e (subst⁻¹ RoomySide (withSide-here v p wd l) r))
+    (λ (n : w ≡ v → ⊥). subst⁻¹ RoomySide (withSide-other v w p wd n) (each w (omega (arith, withSide-count v p wd))))
     (eq-or-ne w v)
 
 module _ (wd : World) (s : W.Step) (is : scripted s ≡ true) (r : Roomy wd) where
-  -- the same at every place of the next world
+  -- the same at every side of the next world
   abbrev After : World → Type 0
-  After x = (w : ℕ) → w < length (x .places) → RoomyPlace (placeAt w x)
+  After x = (w : ℕ) → w < length (x .sides) → RoomySide (sideAt w x)
 
-  -- where the place of one window is replaced
-  after-place : (v : ℕ) (p : Place) (x : World) → v < length (wd .places) → x ≡ withPlace v p wd → RoomyPlace p → After x
-  after-place v p x l e q = subst⁻¹ After e (placed-roomy wd v p l (r .each) q)
+  -- where the side of one window is replaced
+  after-side : (v : ℕ) (p : Side) (x : World) → v < length (wd .sides) → x ≡ withSide v p wd → RoomySide p → After x
+  after-side v p x l e q = subst⁻¹ After e (placed-roomy wd v p l (r .each) q)
 
   roomy-facts : Facts s wd → After (W.step s wd .world)
   unfolding endsOf
@@ -171,13 +170,13 @@ module _ (wd : World) (s : W.Step) (is : scripted s ≡ true) (r : Roomy wd) whe
   roomy-facts (working quiet (mains m)) =
       λ w h.
       let q = r .each w (omega (arith, m .count)) in
-      subst⁻¹ RoomyPlace (m .each w (omega (arith, m .count))) (record { pairs = q .pairs; batches = q .batches })
+      subst⁻¹ RoomySide (m .each w (omega (arith, m .count))) (record { pairs = q .pairs; batches = q .batches })
   roomy-facts (working quiet (works v l p work e shaped)) =
-      after-place v p _ l e (worked-roomy (wd .journal) (wd .current) (wd .limit) v (placeAt v wd) p (r .limit) (r .reached .each v l) (r .each v l) work)
+      after-side v p _ l e (worked-roomy (wd .journal) (wd .current) (wd .limit) v (sideAt v wd) p (r .limit) (r .reached .each v l) (r .each v l) work)
   roomy-facts (dropping v same done l e shaped) =
       let q = r .each v l in
-      after-place v _ _ l e (record { pairs = q .pairs; batches = q .batches })
-  roomy-facts (joining v same done l away e shaped) = after-place v _ _ l e (record { pairs = none; batches = omega arith })
+      after-side v _ _ l e (record { pairs = q .pairs; batches = q .batches })
+  roomy-facts (joining v same done l away e shaped) = after-side v _ _ l e (record { pairs = none; batches = omega arith })
   roomy-facts (starting b same done k) = absurd (true≢false (sym is ∙ ap scripted same))
   roomy-facts (appending x same done few e) = absurd (true≢false (sym is ∙ ap scripted same))
 
@@ -202,7 +201,7 @@ unfolding ackRule
 ack-limit w l wd false = refl
 ack-limit w [] wd true = refl
 ack-limit w (a ∷ l) wd true =
-    calledThen-limit (ackRule (numbersIn wd) w (a .term) (a .index) (playerIn wd)) (λ x. withPlace w (withLines (placeAt w x .line) l (placeAt w x)) x) wd (λ x. refl)
+    calledThen-limit (ackRule (numbersIn wd) w (a .term) (a .index) (playerIn wd)) (λ x. withSide w (withLines (sideAt w x .line) l (sideAt w x)) x) wd (λ x. refl)
     ∙ operate-limit (numbersIn wd) w (λ v. ackAt (a .term) (a .index) v) (playerIn wd)
 
 step-limit : (wd : World) (s : W.Step) → scripted s ≡ true → W.step s wd .world .limit ≡ wd .limit
@@ -214,13 +213,13 @@ step-limit wd (W.written w t) e = operate-limit (numbersIn wd) w _ (playerIn wd)
 step-limit wd (W.send w out) e =
     calledThen-limit (sendRule (numbersIn wd) w (length out) (playerIn wd)) (launch w wd) wd (λ x. refl)
     ∙ operate-limit (numbersIn wd) w (λ v. sendAt (wd .limit) (length out) v) (playerIn wd)
-step-limit wd (W.take w) e = take-limit w (placeAt w wd .line) wd (ltb w (length (wd .places)))
-step-limit wd (W.ack w) e = ack-limit w (placeAt w wd .back) wd (ltb w (length (wd .places)))
+step-limit wd (W.take w) e = take-limit w (sideAt w wd .line) wd (ltb w (length (wd .sides)))
+step-limit wd (W.ack w) e = ack-limit w (sideAt w wd .back) wd (ltb w (length (wd .sides)))
 step-limit wd (W.late-ack w t i) e = absurd (false≢true e)
 step-limit wd (W.drop w) e = operate-limit (numbersIn wd) w _ (playerIn wd)
 step-limit wd (W.join w) e =
-    calledThen-limit (joinRule (numbersIn wd) w (placeAt w wd .record′ .last .0) (playerIn wd)) (λ x. withPlace w (cleared (placeAt w x)) x) wd (λ x. refl)
-    ∙ operate-limit (numbersIn wd) w (λ v. joinAt (entriesOf (numbersIn wd)) w (wd .current) (placeAt w wd .record′ .last .0) v) (playerIn wd)
+    calledThen-limit (joinRule (numbersIn wd) w (sideAt w wd .record′ .last .0) (playerIn wd)) (λ x. withSide w (cleared (sideAt w x)) x) wd (λ x. refl)
+    ∙ operate-limit (numbersIn wd) w (λ v. joinAt (entriesOf (numbersIn wd)) w (wd .current) (sideAt w wd .record′ .last .0) v) (playerIn wd)
 step-limit wd (W.start b) e = absurd (false≢true e)
 step-limit wd (W.append x) e = absurd (false≢true e)
 
@@ -244,7 +243,7 @@ unfolding played
 roomy-played wd [] r = r
 roomy-played wd (s ∷ ss) r = roomy-played (W.step (stepIn wd s) wd .world) ss (roomy-step wd s r)
 
-roomy-new : (v : WindowView) → RoomyPlace (newPlace v)
+roomy-new : (v : WindowView) → RoomySide (newSide v)
 unfolding endsOf
 roomy-new v = record { pairs = none; batches = omega arith }
 
@@ -256,7 +255,7 @@ roomy-opened before j count done = record {
   limit =
       let d : firstStart before j count 2 .next .limit ≡ 2 = ap (λ q. q .limit) (startRule-done (numbersOf j) count 2 (replicate count 0) before done .next) in
       rw d (omega arith);
-  each = λ w h. subst⁻¹ RoomyPlace (List·getD-map newPlace (firstStart before j count 2 .next .windows) w noWindow) (roomy-new _);
+  each = λ w h. subst⁻¹ RoomySide (List·getD-map newSide (firstStart before j count 2 .next .windows) w noWindow) (roomy-new _);
 }
 
 -- in every world that a script reaches from there, each line has room

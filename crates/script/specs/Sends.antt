@@ -9,24 +9,23 @@ use borrow.Author.Tests.{eq-eqb, ne-eqb, leb-true}
 use lib.ListN.{length, getD, take, drop, replicate, length-append}
 use lib.Dec.{leb}
 use Rattle.journal.specs.declared.Entry.{Entry}
-use Rattle.journal.specs.Cases.{le-or-lt, eq-or-ne, and-left, and-right, and-intro}
+use Rattle.lists.specs.Cases.{le-or-lt, eq-or-ne, and-left, and-right, and-intro}
 use Rattle.journal.specs.Entry.{inShape, countOf, entriesOf, placedAt}
-use Rattle.queue.specs.Items.{itemsOf, all, queuedIn}
-use Rattle.queue.specs.Laws.{pushed-room, all-append, all-take}
-use Rattle.window.specs.Record.{newRecord}
+use Rattle.queue.specs.Items.{itemsOf}
+use Rattle.lists.specs.All.{all, queuedIn, all-append, all-take}
+use Rattle.queue.specs.Laws.{pushed-room}
+use Rattle.record.specs.Record.{newRecord}
 use Rattle.rules.specs.declared.Term.{Term}
 use Rattle.player.specs.declared.Played.{Played}
-use Rattle.rules.specs.View.{State, normal, fetching, completed, suspended, WindowView, PlayerView}
+use Rattle.rules.specs.View.{Condition, normal, fetching, completed, suspended, WindowView, PlayerView}
 use Rattle.player.specs.View.{playerOf}
 use Rattle.rules.specs.Shape.{isEmpty}
-use Rattle.rules.specs.Shaped.{shaped}
+use Rattle.rules.specs.Offers.{shaped, batchOf-normal, batchOf-fetching, batchOf-more, batchOf-all, batchOf-drained, batchOf-suspended, sendRule-done}
 use Rattle.player.specs.InShape.{inShape-entries}
 use Rattle.rules.specs.Window.{requeue, Ready, none, front, readyIn, Batch, addFront, batchOf, launched}
-use Rattle.rules.specs.Batches.{batchOf-normal, batchOf-fetching, batchOf-more, batchOf-all, batchOf-drained, batchOf-suspended}
 use Rattle.rules.specs.Rules.{windowAt, sendRule, batchNumbers, batchAt, sendOutput}
-use Rattle.rules.specs.Laws.{sendRule-done}
-use Rattle.player.specs.Promise.{Keeps}
-use Rattle.delivery.specs.World.{Place, World, placeAt, playerIn, withLines, onLine, calledThen, launch}
+use Rattle.player.specs.Promise.{Meets}
+use Rattle.delivery.specs.World.{Side, World, sideAt, playerIn, withLines, onLine, calledThen, launch}
 use Rattle.delivery.specs.World as W
 use Rattle.script.specs.declared.Track.{Track}
 use Rattle.script.specs.declared.Stage.{Stage}
@@ -37,7 +36,7 @@ use Rattle.script.specs.Stored.{trackAt, loadedBy, settledBy}
 use Rattle.script.specs.Worlds.{playerOf-count, Staged, worldOf-player, worldOf-view}
 use Rattle.script.specs.Terms.{launched-term}
 use Rattle.script.specs.Calls.{rule-here}
-use Rattle.script.specs.Settled.{settled-steps, put-place}
+use Rattle.script.specs.Settled.{settled-steps, put-side}
 
 -- ------------------------------------------------------------------------
 -- batchOf
@@ -45,7 +44,7 @@ use Rattle.script.specs.Settled.{settled-steps, put-place}
 pub batchOf-length : (k : ℕ) (v : WindowView) → length (batchOf k v .indices) ≤ k
 unfolding batchOf
 batchOf-length zero v = omega arith
-batchOf-length (suc k) v = by (readyIn (v .state) v) (batchOf-length k)
+batchOf-length (suc k) v = by (readyIn (v .condition) v) (batchOf-length k)
   where
     by : (r : Ready) → ((v : WindowView) → length (batchOf k v .indices) ≤ k) →
         length ((elim r as (λ _. Batch) [ none ↦ record { indices = []; rest = v } | front x v′ ↦ addFront x (batchOf k v′) ]) .indices) ≤ suc k
@@ -55,7 +54,7 @@ batchOf-length (suc k) v = by (readyIn (v .state) v) (batchOf-length k)
 -- a batch has what the queues have
 batchOf-every : (p : ℕ → Bool) (k : ℕ) (v : WindowView) → all p (v .normalQueue) ≡ true → all p (v .catchQueue) ≡ true → all p (batchOf k v .indices) ≡ true
 unfolding all
-batchOf-every p k v a b = by (v .state)
+batchOf-every p k v a b = by (v .condition)
   where
     full : (e : ℕ) (c : List ℕ) → all p c ≡ true → all p (batchOf k (requeue (v .normalQueue) c (completed e) v) .indices) ≡ true
     full e [] h = rw (batchOf-drained v k e (v .normalQueue))
@@ -66,7 +65,7 @@ batchOf-every p k v a b = by (v .state)
         (λ (m : k < length (x ∷ c)). rw (batchOf-more v k e (v .normalQueue) (x ∷ c) m) (all-take p k (x ∷ c) h))
         (le-or-lt (length (x ∷ c)) k)
 
-    by : (s : State) → all p (batchOf k (requeue (v .normalQueue) (v .catchQueue) s v) .indices) ≡ true
+    by : (s : Condition) → all p (batchOf k (requeue (v .normalQueue) (v .catchQueue) s v) .indices) ≡ true
     by normal = rw (batchOf-normal v k (v .normalQueue) (v .catchQueue)) (all-take p k (v .normalQueue) a)
     by (fetching n e) = rw (batchOf-fetching v k n e (v .normalQueue) (v .catchQueue)) (all-take p k (v .catchQueue) b)
     by (completed e) = full e (v .catchQueue) b
@@ -148,7 +147,7 @@ module _ (j : List Entry) (t : Term) where
 -- Send
 
 pub send-steps : (ns : List ℕ) (s : Stage) (h : Staged s) (e : inShape ns ≡ true) (w a b : ℕ) (r : Played) (t : Track) →
-    (w < s .player .count → length (itemsOf (trackAt w s .line)) ≤ 126) → Keeps (s .player) r (sendRule ns w 10 (playerOf (s .player))) → Shows ns w (playerOf (s .player)) a b →
+    (w < s .player .count → length (itemsOf (trackAt w s .line)) ≤ 126) → Meets (s .player) r (sendRule ns w 10 (playerOf (s .player))) → Shows ns w (playerOf (s .player)) a b →
     itemsOf (t .line) ≡ loadedBy a b (itemsOf (trackAt w s .line)) → itemsOf (t .back) ≡ itemsOf (trackAt w s .back) →
     Steps (entriesOf ns) s (Send w) (settledBy s r w t)
 unfolding W.step worldOf
@@ -156,7 +155,7 @@ send-steps ns s h e w a b r t room k shows line back =
     let j : List Entry = entriesOf ns in
     let wd : World = worldOf (entriesOf ns) s in
     let v : WindowView = windowAt w (playerOf (s .player)) in
-    let g : Place → Place = λ x. withLines (x .line ++ onLine j (placeAt w wd .view .term) (batchAt w (playerIn wd))) (x .back) x in
+    let g : Side → Side = λ x. withLines (x .line ++ onLine j (sideAt w wd .view .term) (batchAt w (playerIn wd))) (x .back) x in
     settled-steps ns s h (Send w) w r (sendRule ns w 10 (playerOf (s .player))) t (launch w wd)
     (ap (λ o. calledThen o (launch w wd) wd) (rule-here ns s h e (λ n p. sendRule n w 10 p)))
     k
@@ -164,7 +163,7 @@ send-steps ns s h e w a b r t room k shows line back =
     let d = sendRule-done ns w 10 (playerOf (s .player)) z in
     let same : launched (batchOf (playerOf (s .player) .limit) v) .term ≡ v .term = launched-term (playerOf (s .player) .limit) v in
     let l : w < s .player .count = omega (arith, d .within, playerOf-count (s .player)) in
-    put-place ns s h w l (r .player) _ _ t (launch w wd) g (k .next) (d .next) (λ x. refl)
+    put-side ns s h w l (r .player) _ _ t (launch w wd) g (k .next) (d .next) (λ x. refl)
     (ap₂ (λ l b. record { view = launched (batchOf (playerOf (s .player) .limit) v); record′ = getD (s .records) w newRecord; line = l; back = b; taken = [] })
     (ap₂ (λ t l. map (sentOf j t) l) same line
     ∙ loadedBy-line j (v .term) a b (itemsOf (trackAt w s .line)) (batchAt w (playerOf (s .player))) (room l) (shows .batch z)

@@ -10,38 +10,38 @@ use lib.ListN.{length, getD, set}
 use lib.Seq.{set-out, set-getD}
 use lib.Dec.{eqb, ltb}
 use Rattle.journal.specs.declared.Entry.{Entry}
-use Rattle.journal.specs.Cases.{eq-or-ne}
+use Rattle.lists.specs.Cases.{eq-or-ne}
 use Rattle.journal.specs.Entry.{inShape, entriesOf, entryAt, placedAt, fiveOf}
 use Rattle.queue.specs.declared.Queue.{Queue}
 use Rattle.queue.specs.Items.{itemsOf, pushed, skipped}
 use Rattle.queue.specs.Laws.{pushed-room, skipped-fits}
-use Rattle.window.specs.declared.Record.{Record}
-use Rattle.window.specs.declared.Taken.{Taken}
-use Rattle.window.specs.Record.{newRecord, outcomeOf, takeEntry, takeNumbers}
-use Rattle.window.specs.Laws.{takeNumbers-placed}
+use Rattle.record.specs.declared.Record.{Record}
+use Rattle.record.specs.declared.Taken.{Taken}
+use Rattle.record.specs.Record.{newRecord, outcomeOf, takeEntry, takeNumbers}
+use Rattle.record.specs.Laws.{takeNumbers-placed}
 use Rattle.rules.specs.declared.Term.{Term}
 use Rattle.player.specs.declared.Player.{Player}
 use Rattle.player.specs.declared.Played.{Played}
 use Rattle.rules.specs.View.{WindowView, PlayerView, noWindow}
 use Rattle.player.specs.View.{playerOf}
 use Rattle.rules.specs.Rules.{Outcome, windowAt, withWindow, ackRule, joinRule}
-use Rattle.rules.specs.Laws.{ackRule-done, joinRule-done}
-use Rattle.held.specs.Promise.{numberOf}
-use Rattle.player.specs.Promise.{Keeps}
-use Rattle.delivery.specs.World.{Sent, Place, World, placeAt, numbersIn, playerIn, withView, withLines, withPlayer, withPlace, takeFront, answered, calledThen, takeAtLine, ackAtLine, cleared}
+use Rattle.rules.specs.Offers.{ackRule-done, joinRule-done}
+use Rattle.window.specs.Promise.{numberOf}
+use Rattle.player.specs.Promise.{Meets}
+use Rattle.delivery.specs.World.{Sent, Side, World, sideAt, numbersIn, playerIn, withView, withLines, withPlayer, withSide, takeFront, answered, calledThen, takeAtLine, ackAtLine, cleared}
 use Rattle.delivery.specs.World as W
-use Rattle.delivery.specs.Worlds.{withPlayer-same, withPlayer-window, withPlace-here, withPlace-twice}
+use Rattle.delivery.specs.Worlds.{withPlayer-same, withPlayer-window, withSide-here, withSide-twice}
 use Rattle.delivery.specs.Stepped.{calledThen-refused, calledThen-done}
 use Rattle.script.specs.declared.Track.{Track}
 use Rattle.script.specs.declared.Stage.{Stage}
 use Rattle.script.specs.declared.Step.{Step}
 use Rattle.script.specs.declared.Step.the-variants.{Ack, Join, Take}
 use Rattle.script.specs.declared.Reply.the-variants.{Answered, Empty}
-use Rattle.script.specs.Stage.{sentOf, ackOf, placeOf, worldOf, forget, forgotten, stepIn}
+use Rattle.script.specs.Stage.{sentOf, ackOf, sideOf, worldOf, forget, forgotten, stepIn}
 use Rattle.script.specs.Promise.{Steps}
 use Rattle.script.specs.Stored.{recordAt, trackAt, ackPushed, calledBy, settledBy, tookBy}
-use Rattle.script.specs.Places.{forgotten-place}
-use Rattle.script.specs.Worlds.{playerOf-count, worldOf-forgotten, worldOf-count, worldOf-none, Staged, worldOf-player, worldOf-place, worldOf-placed}
+use Rattle.script.specs.Sides.{forgotten-side}
+use Rattle.script.specs.Worlds.{playerOf-count, worldOf-forgotten, worldOf-count, worldOf-none, Staged, worldOf-player, worldOf-side, worldOf-placed}
 use Rattle.script.specs.Calls.{rule-here}
 
 -- ------------------------------------------------------------------------
@@ -73,7 +73,7 @@ settledBy-out s r w t h =
 module _ (ns : List ℕ) (s : Stage) (h : Staged s) where
   -- refused, nothing changes; answered 0, the stage is to show what the world's change gives
   pub settled-steps : (st : Step) (w : ℕ) (r : Played) (o : Outcome) (t : Track) (f : World → World) →
-      W.step (stepIn (worldOf (entriesOf ns) s) st) (worldOf (entriesOf ns) s) ≡ calledThen o f (worldOf (entriesOf ns) s) → Keeps (s .player) r o →
+      W.step (stepIn (worldOf (entriesOf ns) s) st) (worldOf (entriesOf ns) s) ≡ calledThen o f (worldOf (entriesOf ns) s) → Meets (s .player) r o →
       (o .answer ≡ 0 → worldOf (entriesOf ns) (record { player = r .player; records = s .records; tracks = set (s .tracks) w t })
       ≡ forgotten (f (withPlayer (o .next) (worldOf (entriesOf ns) s)))) → Steps (entriesOf ns) s st (settledBy s r w t)
   settled-steps st w r o t f is k done = record {
@@ -91,56 +91,56 @@ module _ (ns : List ℕ) (s : Stage) (h : Staged s) where
       no : (o .answer ≡ 0 → ⊥) → worldOf (entriesOf ns) (settledBy s r w t .stage) ≡ forgotten (calledThen o f (worldOf (entriesOf ns) s) .world)
       no n =
           by false (ne-eqb _ 0 (λ e. n (sym (k .answer) ∙ e)))
-          ∙ ap (λ p. worldOf (entriesOf ns) (record { player = p; records = s .records; tracks = s .tracks })) (k .kept n)
+          ∙ ap (λ p. worldOf (entriesOf ns) (record { player = p; records = s .records; tracks = s .tracks })) (k .unchanged n)
           ∙ sym (worldOf-forgotten (entriesOf ns) s)
           ∙ sym (ap forgotten (calledThen-refused o f (worldOf (entriesOf ns) s) n
           ∙ withPlayer-same (worldOf (entriesOf ns) s) (o .next)
-          (sym (k .next) ∙ ap playerOf (k .kept n) ∙ sym (worldOf-player (entriesOf ns) s h))))
+          (sym (k .next) ∙ ap playerOf (k .unchanged n) ∙ sym (worldOf-player (entriesOf ns) s h))))
 
   -- a window's turn and a change g of its lines: the stage with that view and those lines
   module _ (w : ℕ) (l : w < s .player .count) where
-    pub put-place : (p : Player) (q : PlayerView) (v : WindowView) (t : Track) (f : World → World) (g : Place → Place) →
-        playerOf p ≡ q → q ≡ withWindow w v (playerOf (s .player)) → ((x : World) → f x ≡ withPlace w (g (placeAt w x)) x) →
-        placeOf (entriesOf ns) v (getD (s .records) w newRecord) (itemsOf (t .line)) (itemsOf (t .back))
-        ≡ forget (g (withView v (placeOf (entriesOf ns) (windowAt w (playerOf (s .player))) (getD (s .records) w newRecord) (itemsOf (trackAt w s .line)) (itemsOf (trackAt w s .back))))) →
+    pub put-side : (p : Player) (q : PlayerView) (v : WindowView) (t : Track) (f : World → World) (g : Side → Side) →
+        playerOf p ≡ q → q ≡ withWindow w v (playerOf (s .player)) → ((x : World) → f x ≡ withSide w (g (sideAt w x)) x) →
+        sideOf (entriesOf ns) v (getD (s .records) w newRecord) (itemsOf (t .line)) (itemsOf (t .back))
+        ≡ forget (g (withView v (sideOf (entriesOf ns) (windowAt w (playerOf (s .player))) (getD (s .records) w newRecord) (itemsOf (trackAt w s .line)) (itemsOf (trackAt w s .back))))) →
         worldOf (entriesOf ns) (record { player = p; records = s .records; tracks = set (s .tracks) w t }) ≡ forgotten (f (withPlayer q (worldOf (entriesOf ns) s)))
-    put-place p q v t f g e next is same =
+    put-side p q v t f g e next is same =
         let wd : World = worldOf (entriesOf ns) s in
-        let there : w < length (wd .places) = omega (arith, worldOf-count (entriesOf ns) s) in
+        let there : w < length (wd .sides) = omega (arith, worldOf-count (entriesOf ns) s) in
         ap (λ rs. worldOf (entriesOf ns) (record { player = p; records = rs; tracks = set (s .tracks) w t })) (sym (set-getD (s .records) w newRecord))
         ∙ worldOf-placed (entriesOf ns) s h p w v (getD (s .records) w newRecord) t (e ∙ next)
-        ∙ ap (λ x. withPlace w x wd) (same ∙ ap (λ x. forget (g (withView v x))) (sym (worldOf-place (entriesOf ns) s h w l)))
-        ∙ ap (withPlace w (forget (g (withView v (placeAt w wd))))) (sym (worldOf-forgotten (entriesOf ns) s))
-        ∙ sym (forgotten-place w (g (withView v (placeAt w wd))) wd)
+        ∙ ap (λ x. withSide w x wd) (same ∙ ap (λ x. forget (g (withView v x))) (sym (worldOf-side (entriesOf ns) s h w l)))
+        ∙ ap (withSide w (forget (g (withView v (sideAt w wd))))) (sym (worldOf-forgotten (entriesOf ns) s))
+        ∙ sym (forgotten-side w (g (withView v (sideAt w wd))) wd)
         ∙ sym (ap forgotten
         (ap f (withPlayer-window wd q w v (next ∙ ap (withWindow w v) (sym (worldOf-player (entriesOf ns) s h))))
-        ∙ is (withPlace w (withView v (placeAt w wd)) wd)
-        ∙ ap (λ p. withPlace w (g p) (withPlace w (withView v (placeAt w wd)) wd)) (withPlace-here w (withView v (placeAt w wd)) wd there)
-        ∙ withPlace-twice w (withView v (placeAt w wd)) (g (withView v (placeAt w wd))) wd))
+        ∙ is (withSide w (withView v (sideAt w wd)) wd)
+        ∙ ap (λ p. withSide w (g p) (withSide w (withView v (sideAt w wd)) wd)) (withSide-here w (withView v (sideAt w wd)) wd there)
+        ∙ withSide-twice w (withView v (sideAt w wd)) (g (withView v (sideAt w wd))) wd))
 
   -- ------------------------------------------------------------------------
   -- Join
 
-  -- the record that a place shows
-  recordAt-place : (w : ℕ) → placeAt w (worldOf (entriesOf ns) s) .record′ ≡ recordAt w s
-  recordAt-place w = go (ltb w (s .player .count)) refl
+  -- the record that a side shows
+  recordAt-side : (w : ℕ) → sideAt w (worldOf (entriesOf ns) s) .record′ ≡ recordAt w s
+  recordAt-side w = go (ltb w (s .player .count)) refl
     where
-      go : (b : Bool) → ltb w (s .player .count) ≡ b → placeAt w (worldOf (entriesOf ns) s) .record′ ≡ cond b (getD (s .records) w newRecord) newRecord
-      go true e = ap (λ p. p .record′) (worldOf-place (entriesOf ns) s h w (ltb-true _ _ e))
+      go : (b : Bool) → ltb w (s .player .count) ≡ b → sideAt w (worldOf (entriesOf ns) s) .record′ ≡ cond b (getD (s .records) w newRecord) newRecord
+      go true e = ap (λ p. p .record′) (worldOf-side (entriesOf ns) s h w (ltb-true _ _ e))
       go false e = ap (λ p. p .record′) (worldOf-none (entriesOf ns) s w (ltb-false _ _ e))
 
   module _ (e : inShape ns ≡ true) where
-    pub join-steps : (w : ℕ) (r : Played) (t : Track) → Keeps (s .player) r (joinRule ns w (recordAt w s .last .0) (playerOf (s .player))) →
+    pub join-steps : (w : ℕ) (r : Played) (t : Track) → Meets (s .player) r (joinRule ns w (recordAt w s .last .0) (playerOf (s .player))) →
         itemsOf (t .line) ≡ [] → itemsOf (t .back) ≡ [] → Steps (entriesOf ns) s (Join w) (settledBy s r w t)
     unfolding W.step
     join-steps w r t k a b =
-        settled-steps (Join w) w r (joinRule ns w (recordAt w s .last .0) (playerOf (s .player))) t (λ x. withPlace w (cleared (placeAt w x)) x)
-        (ap (λ x. calledThen (joinRule (numbersIn (worldOf (entriesOf ns) s)) w (x .last .0) (playerIn (worldOf (entriesOf ns) s))) (λ x. withPlace w (cleared (placeAt w x)) x) (worldOf (entriesOf ns) s)) (recordAt-place w)
-        ∙ ap (λ o. calledThen o (λ x. withPlace w (cleared (placeAt w x)) x) (worldOf (entriesOf ns) s)) (rule-here ns s h e (λ n p. joinRule n w (recordAt w s .last .0) p)))
+        settled-steps (Join w) w r (joinRule ns w (recordAt w s .last .0) (playerOf (s .player))) t (λ x. withSide w (cleared (sideAt w x)) x)
+        (ap (λ x. calledThen (joinRule (numbersIn (worldOf (entriesOf ns) s)) w (x .last .0) (playerIn (worldOf (entriesOf ns) s))) (λ x. withSide w (cleared (sideAt w x)) x) (worldOf (entriesOf ns) s)) (recordAt-side w)
+        ∙ ap (λ o. calledThen o (λ x. withSide w (cleared (sideAt w x)) x) (worldOf (entriesOf ns) s)) (rule-here ns s h e (λ n p. joinRule n w (recordAt w s .last .0) p)))
         k
         (λ z.
         let d = joinRule-done ns w (recordAt w s .last .0) (playerOf (s .player)) z in
-        put-place w (omega (arith, d .within, playerOf-count (s .player))) (r .player) _ _ t _ cleared (k .next) (d .next) (λ x. refl) (rw (a, b)))
+        put-side w (omega (arith, d .within, playerOf-count (s .player))) (r .player) _ _ t _ cleared (k .next) (d .next) (λ x. refl) (rw (a, b)))
 
     -- ------------------------------------------------------------------------
     -- Ack
@@ -149,16 +149,16 @@ module _ (ns : List ℕ) (s : Stage) (h : Staged s) where
       pub ack-none : s .player .count ≤ w → Steps (entriesOf ns) s (Ack w) (record { reply = Answered 2; stage = s })
       unfolding W.step
       ack-none l =
-          let out = le-ltb w (length (worldOf (entriesOf ns) s .places)) (omega (arith, worldOf-count (entriesOf ns) s)) in
+          let out = le-ltb w (length (worldOf (entriesOf ns) s .sides)) (omega (arith, worldOf-count (entriesOf ns) s)) in
           record { reply = simp out; world = simp out (sym (worldOf-forgotten (entriesOf ns) s)) }
 
       ack-line : w < s .player .count → (xs : List ℕ) → itemsOf (trackAt w s .back) ≡ xs →
           W.step (W.ack w) (worldOf (entriesOf ns) s) ≡ ackAtLine w (map (ackOf (windowAt w (playerOf (s .player)) .term)) xs) (worldOf (entriesOf ns) s)
       unfolding W.step
       ack-line l xs front =
-          simp (lt-ltb w (length (worldOf (entriesOf ns) s .places)) (omega (arith, worldOf-count (entriesOf ns) s)))
+          simp (lt-ltb w (length (worldOf (entriesOf ns) s .sides)) (omega (arith, worldOf-count (entriesOf ns) s)))
           (ap (λ b. ackAtLine w b (worldOf (entriesOf ns) s))
-          (ap (λ p. p .back) (worldOf-place (entriesOf ns) s h w l) ∙ ap (map (ackOf (windowAt w (playerOf (s .player)) .term))) front))
+          (ap (λ p. p .back) (worldOf-side (entriesOf ns) s h w l) ∙ ap (map (ackOf (windowAt w (playerOf (s .player)) .term))) front))
 
       pub ack-empty : w < s .player .count → itemsOf (trackAt w s .back) ≡ [] → Steps (entriesOf ns) s (Ack w) (record { reply = Empty; stage = s })
       ack-empty l front =
@@ -166,19 +166,19 @@ module _ (ns : List ℕ) (s : Stage) (h : Staged s) where
           record { reply = sym (ap (λ x. x .reply) is); world = sym (worldOf-forgotten (entriesOf ns) s) ∙ sym (ap (λ x. forgotten (x .world)) is) }
 
       pub ack-steps : w < s .player .count → (t : Term) (i : ℕ) (rest : List ℕ) (r : Played) (u : Track) → t ≡ windowAt w (playerOf (s .player)) .term →
-          itemsOf (trackAt w s .back) ≡ i ∷ rest → Keeps (s .player) r (ackRule ns w t i (playerOf (s .player))) →
+          itemsOf (trackAt w s .back) ≡ i ∷ rest → Meets (s .player) r (ackRule ns w t i (playerOf (s .player))) →
           itemsOf (u .line) ≡ itemsOf (trackAt w s .line) → itemsOf (u .back) ≡ rest → Steps (entriesOf ns) s (Ack w) (settledBy s r w u)
       ack-steps l t i rest r u current front k a b =
           let acks : List W.Ack = map (ackOf (windowAt w (playerOf (s .player)) .term)) rest in
-          let g : Place → Place = λ p. withLines (p .line) acks p in
-          settled-steps (Ack w) w r (ackRule ns w t i (playerOf (s .player))) u (λ x. withPlace w (g (placeAt w x)) x)
+          let g : Side → Side = λ p. withLines (p .line) acks p in
+          settled-steps (Ack w) w r (ackRule ns w t i (playerOf (s .player))) u (λ x. withSide w (g (sideAt w x)) x)
           (ack-line l (i ∷ rest) front
-          ∙ ap (λ o. calledThen o (λ x. withPlace w (g (placeAt w x)) x) (worldOf (entriesOf ns) s))
+          ∙ ap (λ o. calledThen o (λ x. withSide w (g (sideAt w x)) x) (worldOf (entriesOf ns) s))
           (rule-here ns s h e (λ n p. ackRule n w (windowAt w (playerOf (s .player)) .term) i p) ∙ ap (λ t. ackRule ns w t i (playerOf (s .player))) (sym current)))
           k
           (λ z.
           let d = ackRule-done ns w t i (playerOf (s .player)) z in
-          put-place w l (r .player) _ _ u _ g (k .next) (d .next) (λ x. refl) (rw (a, b)))
+          put-side w l (r .player) _ _ u _ g (k .next) (d .next) (λ x. refl) (rw (a, b)))
 
       -- ------------------------------------------------------------------------
       -- Take
@@ -186,16 +186,16 @@ module _ (ns : List ℕ) (s : Stage) (h : Staged s) where
       pub take-none : s .player .count ≤ w → Steps (entriesOf ns) s (Take w) (record { reply = Answered 2; stage = s })
       unfolding W.step
       take-none l =
-          let out = le-ltb w (length (worldOf (entriesOf ns) s .places)) (omega (arith, worldOf-count (entriesOf ns) s)) in
+          let out = le-ltb w (length (worldOf (entriesOf ns) s .sides)) (omega (arith, worldOf-count (entriesOf ns) s)) in
           record { reply = simp out; world = simp out (sym (worldOf-forgotten (entriesOf ns) s)) }
 
       take-line : w < s .player .count → (xs : List ℕ) → itemsOf (trackAt w s .line) ≡ xs →
           W.step (W.take w) (worldOf (entriesOf ns) s) ≡ takeAtLine w (map (sentOf (entriesOf ns) (windowAt w (playerOf (s .player)) .term)) xs) (worldOf (entriesOf ns) s)
       unfolding W.step
       take-line l xs front =
-          simp (lt-ltb w (length (worldOf (entriesOf ns) s .places)) (omega (arith, worldOf-count (entriesOf ns) s)))
+          simp (lt-ltb w (length (worldOf (entriesOf ns) s .sides)) (omega (arith, worldOf-count (entriesOf ns) s)))
           (ap (λ b. takeAtLine w b (worldOf (entriesOf ns) s))
-          (ap (λ p. p .line) (worldOf-place (entriesOf ns) s h w l) ∙ ap (map (sentOf (entriesOf ns) (windowAt w (playerOf (s .player)) .term))) front))
+          (ap (λ p. p .line) (worldOf-side (entriesOf ns) s h w l) ∙ ap (map (sentOf (entriesOf ns) (windowAt w (playerOf (s .player)) .term))) front))
 
       pub take-empty : w < s .player .count → itemsOf (trackAt w s .line) ≡ [] → Steps (entriesOf ns) s (Take w) (record { reply = Empty; stage = s })
       take-empty l front =
@@ -220,7 +220,7 @@ module _ (ns : List ℕ) (s : Stage) (h : Staged s) where
           let v : WindowView = windowAt w (playerOf (s .player)) in
           let wd : World = worldOf (entriesOf ns) s in
           let is = take-line l (code ∷ rest) front in
-          let here = worldOf-place (entriesOf ns) s h w l in
+          let here = worldOf-side (entriesOf ns) s h w l in
           let sent : Sent = sentOf (entriesOf ns) (v .term) code in
           let sents : List Sent = map (sentOf (entriesOf ns) (v .term)) rest in
           let o = k
@@ -233,10 +233,10 @@ module _ (ns : List ℕ) (s : Stage) (h : Staged s) where
                 ∙ sym (ap (λ x. x .reply) is);
             world = worldOf-placed (entriesOf ns) s h (s .player) w v (r .record) t
                 (sym (ap (λ vs. record { limit = playerOf (s .player) .limit; current = playerOf (s .player) .current; windows = vs }) (set-getD (playerOf (s .player) .windows) w noWindow)))
-                ∙ ap (λ x. withPlace w x wd) (ap₂ (λ l b. record { view = v; record′ = r .record; line = map (sentOf (entriesOf ns) (v .term)) l; back = b; taken = [] }) a (ap (map (ackOf (v .term))) b ∙ ackPushed-map (v .term) code (itemsOf (trackAt w s .back)) room)
+                ∙ ap (λ x. withSide w x wd) (ap₂ (λ l b. record { view = v; record′ = r .record; line = map (sentOf (entriesOf ns) (v .term)) l; back = b; taken = [] }) a (ap (map (ackOf (v .term))) b ∙ ackPushed-map (v .term) code (itemsOf (trackAt w s .back)) room)
                 ∙ ap (λ o. record { view = v; record′ = o .record′; line = sents; back = cond (eqb (code % 2) 1) (map (ackOf (v .term)) (itemsOf (trackAt w s .back)) ++ (ackOf (v .term) (code / 2) ∷ [])) (map (ackOf (v .term)) (itemsOf (trackAt w s .back))); taken = [] }) o
                 ∙ ap (λ p. forget (takeFront sent sents p)) (sym here))
-                ∙ ap (withPlace w (forget (takeFront sent sents (placeAt w wd)))) (sym (worldOf-forgotten (entriesOf ns) s))
-                ∙ sym (forgotten-place w (takeFront sent sents (placeAt w wd)) wd)
+                ∙ ap (withSide w (forget (takeFront sent sents (sideAt w wd)))) (sym (worldOf-forgotten (entriesOf ns) s))
+                ∙ sym (forgotten-side w (takeFront sent sents (sideAt w wd)) wd)
                 ∙ sym (ap (λ x. forgotten (x .world)) is);
           }

@@ -9,14 +9,14 @@ use borrow.Author.Tests.{le-leb, lt-leb}
 use lib.ListN.{length, length-map, List·getD-map}
 use lib.Dec.{eqb, ltb, leb}
 use Rattle.journal.specs.declared.Entry.{Entry}
-use Rattle.journal.specs.Cases.{le-or-lt, and-intro}
+use Rattle.lists.specs.Cases.{le-or-lt, and-intro}
 use Rattle.journal.specs.Entry.{inShape, entriesOf, fiveOf}
 use Rattle.queue.specs.Items.{itemsOf}
-use Rattle.window.specs.Record.{takeNumbers}
+use Rattle.record.specs.Record.{takeNumbers}
 use Rattle.rules.specs.View.{PlayerView}
-use Rattle.rules.specs.Shaped.{shaped}
+use Rattle.rules.specs.Offers.{shaped}
 use Rattle.rules.specs.Rules.{Outcome, mainRule, catchRule, writtenRule, ackRule, dropRule, joinRule, sendRule, batchAt}
-use Rattle.delivery.specs.World.{Sent, Ack, Place, World, noPlace, placeAt, numbersIn, playerIn, withLines, withPlayer, withPlace, onLine, takeFront, answered, called, calledThen, launch, takeAtLine, ackAtLine, cleared}
+use Rattle.delivery.specs.World.{Sent, Ack, Side, World, noSide, sideAt, numbersIn, playerIn, withLines, withPlayer, withSide, onLine, takeFront, answered, called, calledThen, launch, takeAtLine, ackAtLine, cleared}
 use Rattle.delivery.specs.World as W
 use Rattle.delivery.specs.Worlds.{windows-in}
 use Rattle.script.specs.declared.Stage.{Stage}
@@ -26,36 +26,36 @@ use Rattle.script.specs.declared.Stepped.{Stepped}
 use Rattle.script.specs.Stage.{worldOf, forget, forgotten, dueIn, stepIn, replyOf, windowOf, fits}
 use Rattle.script.specs.Promise.{Steps, Plays}
 use Rattle.script.specs.Stored.{trackAt}
-use Rattle.script.specs.Places.{forgotten-player, forgotten-place}
-use Rattle.script.specs.Worlds.{worldOf-count, worldOf-place}
+use Rattle.script.specs.Sides.{forgotten-player, forgotten-side}
+use Rattle.script.specs.Worlds.{worldOf-count, worldOf-side}
 use Rattle.script.specs.Room.{Roomy, roomy-line}
 
 -- ------------------------------------------------------------------------
 -- forgotten
 
-views-forget : (ps : List Place) → map (λ p. p .view) (map forget ps) ≡ map (λ p. p .view) ps
+views-forget : (ps : List Side) → map (λ p. p .view) (map forget ps) ≡ map (λ p. p .view) ps
 views-forget [] = refl
 views-forget (p ∷ ps) = ap (λ l. p .view ∷ l) (views-forget ps)
 
-forget-twice : (ps : List Place) → map forget (map forget ps) ≡ map forget ps
+forget-twice : (ps : List Side) → map forget (map forget ps) ≡ map forget ps
 forget-twice [] = refl
 forget-twice (p ∷ ps) = ap (λ l. forget p ∷ l) (forget-twice ps)
 
 forgotten-in : (wd : World) → playerIn (forgotten wd) ≡ playerIn wd
 unfolding forgotten
-forgotten-in wd = ap (λ vs. record { limit = wd .limit; current = wd .current; windows = vs }) (views-forget (wd .places))
+forgotten-in wd = ap (λ vs. record { limit = wd .limit; current = wd .current; windows = vs }) (views-forget (wd .sides))
 
 forgotten-twice : (wd : World) → forgotten (forgotten wd) ≡ forgotten wd
 unfolding forgotten
-forgotten-twice wd = ap (λ ps. record { journal = wd .journal; limit = wd .limit; current = wd .current; places = ps }) (forget-twice (wd .places))
+forgotten-twice wd = ap (λ ps. record { journal = wd .journal; limit = wd .limit; current = wd .current; sides = ps }) (forget-twice (wd .sides))
 
-pub forgotten-at : (w : ℕ) (wd : World) → placeAt w (forgotten wd) ≡ forget (placeAt w wd)
+pub forgotten-at : (w : ℕ) (wd : World) → sideAt w (forgotten wd) ≡ forget (sideAt w wd)
 unfolding forgotten
-forgotten-at w wd = List·getD-map forget (wd .places) w noPlace
+forgotten-at w wd = List·getD-map forget (wd .sides) w noSide
 
-pub forgotten-count : (wd : World) → length (forgotten wd .places) ≡ length (wd .places)
+pub forgotten-count : (wd : World) → length (forgotten wd .sides) ≡ length (wd .sides)
 unfolding forgotten
-forgotten-count wd = length-map (wd .places) forget
+forgotten-count wd = length-map (wd .sides) forget
 
 -- ------------------------------------------------------------------------
 -- Alike
@@ -71,12 +71,12 @@ alike-stays r wd = record { reply = refl; world = forgotten-twice wd }
 player-alike : (q : PlayerView) (wd : World) → forgotten (withPlayer q (forgotten wd)) ≡ forgotten (withPlayer q wd)
 player-alike q wd = ap forgotten (sym (forgotten-player q wd)) ∙ forgotten-twice (withPlayer q wd)
 
-place-alike : (w : ℕ) (g h : Place → Place) (x : World) → forget (g (forget (placeAt w x))) ≡ forget (h (placeAt w x)) →
-    forgotten (withPlace w (g (placeAt w (forgotten x))) (forgotten x)) ≡ forgotten (withPlace w (h (placeAt w x)) x)
-place-alike w g h x same =
-    forgotten-place w (g (placeAt w (forgotten x))) (forgotten x)
-    ∙ ap₂ (withPlace w) (ap (λ p. forget (g p)) (forgotten-at w x) ∙ same) (forgotten-twice x)
-    ∙ sym (forgotten-place w (h (placeAt w x)) x)
+side-alike : (w : ℕ) (g h : Side → Side) (x : World) → forget (g (forget (sideAt w x))) ≡ forget (h (sideAt w x)) →
+    forgotten (withSide w (g (sideAt w (forgotten x))) (forgotten x)) ≡ forgotten (withSide w (h (sideAt w x)) x)
+side-alike w g h x same =
+    forgotten-side w (g (sideAt w (forgotten x))) (forgotten x)
+    ∙ ap₂ (withSide w) (ap (λ p. forget (g p)) (forgotten-at w x) ∙ same) (forgotten-twice x)
+    ∙ sym (forgotten-side w (h (sideAt w x)) x)
 
 -- a call of the player, by its rule
 alike-called : (rule : PlayerView → Outcome) (wd : World) → Alike (called (rule (playerIn (forgotten wd))) (forgotten wd)) (called (rule (playerIn wd)) wd)
@@ -104,22 +104,22 @@ unfolding takeFront
 take-alike w wd [] = alike-stays W.empty wd
 take-alike w wd (s ∷ l) = record {
   reply = ap (λ p. answered (takeNumbers (fiveOf (s .placed)) (p .record′) .number)) (forgotten-at w wd);
-  world = place-alike w (takeFront s l) (takeFront s l) wd refl;
+  world = side-alike w (takeFront s l) (takeFront s l) wd refl;
 }
 
 ack-alike : (w : ℕ) (wd : World) (l : List Ack) → Alike (ackAtLine w l (forgotten wd)) (ackAtLine w l wd)
 unfolding forgotten
 ack-alike w wd [] = alike-stays W.empty wd
 ack-alike w wd (a ∷ l) =
-    let f : World → World = λ x. withPlace w (withLines (placeAt w x .line) l (placeAt w x)) x in
-    alike-then (λ p. ackRule (numbersIn wd) w (a .term) (a .index) p) f f wd (λ x. place-alike w (λ p. withLines (p .line) l p) (λ p. withLines (p .line) l p) x refl)
+    let f : World → World = λ x. withSide w (withLines (sideAt w x .line) l (sideAt w x)) x in
+    alike-then (λ p. ackRule (numbersIn wd) w (a .term) (a .index) p) f f wd (λ x. side-alike w (λ p. withLines (p .line) l p) (λ p. withLines (p .line) l p) x refl)
 
 -- below W by the line, from W up answered 2
 line-alike : (r : W.Reply) (wd : World) (w : ℕ) (a b : W.Stepped) → Alike a b →
-    Alike (cond (ltb w (length (forgotten wd .places))) a (W.stays r (forgotten wd))) (cond (ltb w (length (wd .places))) b (W.stays r wd))
+    Alike (cond (ltb w (length (forgotten wd .sides))) a (W.stays r (forgotten wd))) (cond (ltb w (length (wd .sides))) b (W.stays r wd))
 line-alike r wd w a b same =
-    subst⁻¹ (λ n. Alike (cond (ltb w n) a (W.stays r (forgotten wd))) (cond (ltb w (length (wd .places))) b (W.stays r wd))) (forgotten-count wd)
-    (by (ltb w (length (wd .places))))
+    subst⁻¹ (λ n. Alike (cond (ltb w n) a (W.stays r (forgotten wd))) (cond (ltb w (length (wd .sides))) b (W.stays r wd))) (forgotten-count wd)
+    (by (ltb w (length (wd .sides))))
   where
     by : (t : Bool) → Alike (cond t a (W.stays r (forgotten wd))) (cond t b (W.stays r wd))
     by true = same
@@ -129,31 +129,31 @@ pub step-alike : (wd : World) (s : Step) → Alike (W.step (stepIn (forgotten wd
 unfolding W.step forgotten
 step-alike wd Main = alike-called (λ p. mainRule (numbersIn wd) (wd .current + 1) p) wd
 step-alike wd (Catch w) =
-    subst⁻¹ (λ x. Alike (W.step (W.catch w (x .view .term) (dueIn (x .view .state))) (forgotten wd)) (W.step (stepIn wd (Catch w)) wd)) (forgotten-at w wd)
-    (alike-called (λ p. catchRule (numbersIn wd) w (placeAt w wd .view .term) (dueIn (placeAt w wd .view .state)) p) wd)
+    subst⁻¹ (λ x. Alike (W.step (W.catch w (x .view .term) (dueIn (x .view .condition))) (forgotten wd)) (W.step (stepIn wd (Catch w)) wd)) (forgotten-at w wd)
+    (alike-called (λ p. catchRule (numbersIn wd) w (sideAt w wd .view .term) (dueIn (sideAt w wd .view .condition)) p) wd)
 step-alike wd (Send w) =
     alike-then (λ p. sendRule (numbersIn wd) w 10 p) (launch w (forgotten wd)) (launch w wd) wd
     (λ x.
-    place-alike w
-    (λ p. withLines (p .line ++ onLine (wd .journal) (placeAt w (forgotten wd) .view .term) (batchAt w (playerIn (forgotten wd)))) (p .back) p)
-    (λ p. withLines (p .line ++ onLine (wd .journal) (placeAt w wd .view .term) (batchAt w (playerIn wd))) (p .back) p) x
-    (ap₂ (λ t is. forget (withLines (placeAt w x .line ++ onLine (wd .journal) t is) (placeAt w x .back) (placeAt w x)))
+    side-alike w
+    (λ p. withLines (p .line ++ onLine (wd .journal) (sideAt w (forgotten wd) .view .term) (batchAt w (playerIn (forgotten wd)))) (p .back) p)
+    (λ p. withLines (p .line ++ onLine (wd .journal) (sideAt w wd .view .term) (batchAt w (playerIn wd))) (p .back) p) x
+    (ap₂ (λ t is. forget (withLines (sideAt w x .line ++ onLine (wd .journal) t is) (sideAt w x .back) (sideAt w x)))
     (ap (λ p. p .view .term) (forgotten-at w wd)) (ap (batchAt w) (forgotten-in wd))))
 step-alike wd (Written w) =
     subst⁻¹ (λ x. Alike (W.step (W.written w (x .view .term)) (forgotten wd)) (W.step (stepIn wd (Written w)) wd)) (forgotten-at w wd)
-    (alike-called (λ p. writtenRule (numbersIn wd) w (placeAt w wd .view .term) p) wd)
+    (alike-called (λ p. writtenRule (numbersIn wd) w (sideAt w wd .view .term) p) wd)
 step-alike wd (AckStep w) =
     line-alike (answered 2) wd w _ _
-    (subst⁻¹ (λ x. Alike (ackAtLine w (x .back) (forgotten wd)) (ackAtLine w (placeAt w wd .back) wd)) (forgotten-at w wd) (ack-alike w wd (placeAt w wd .back)))
+    (subst⁻¹ (λ x. Alike (ackAtLine w (x .back) (forgotten wd)) (ackAtLine w (sideAt w wd .back) wd)) (forgotten-at w wd) (ack-alike w wd (sideAt w wd .back)))
 step-alike wd (Drop w) = alike-called (λ p. dropRule (numbersIn wd) w p) wd
 step-alike wd (Join w) =
-    subst⁻¹ (λ x. Alike (calledThen (joinRule (numbersIn wd) w (x .record′ .last .0) (playerIn (forgotten wd))) (λ y. withPlace w (cleared (placeAt w y)) y) (forgotten wd))
+    subst⁻¹ (λ x. Alike (calledThen (joinRule (numbersIn wd) w (x .record′ .last .0) (playerIn (forgotten wd))) (λ y. withSide w (cleared (sideAt w y)) y) (forgotten wd))
     (W.step (stepIn wd (Join w)) wd)) (forgotten-at w wd)
-    (alike-then (λ p. joinRule (numbersIn wd) w (placeAt w wd .record′ .last .0) p) (λ y. withPlace w (cleared (placeAt w y)) y)
-    (λ y. withPlace w (cleared (placeAt w y)) y) wd (λ x. place-alike w cleared cleared x refl))
+    (alike-then (λ p. joinRule (numbersIn wd) w (sideAt w wd .record′ .last .0) p) (λ y. withSide w (cleared (sideAt w y)) y)
+    (λ y. withSide w (cleared (sideAt w y)) y) wd (λ x. side-alike w cleared cleared x refl))
 step-alike wd (Take w) =
     line-alike (answered 2) wd w _ _
-    (subst⁻¹ (λ x. Alike (takeAtLine w (x .line) (forgotten wd)) (takeAtLine w (placeAt w wd .line) wd)) (forgotten-at w wd) (take-alike w wd (placeAt w wd .line)))
+    (subst⁻¹ (λ x. Alike (takeAtLine w (x .line) (forgotten wd)) (takeAtLine w (sideAt w wd .line) wd)) (forgotten-at w wd) (take-alike w wd (sideAt w wd .line)))
 
 -- ------------------------------------------------------------------------
 -- a stage that shows a world
@@ -167,8 +167,8 @@ module _ (j : List Entry) (s : Stage) (wd : World) (shows : worldOf j s ≡ forg
     k .world ∙ ap (λ x. forgotten (W.step (stepIn x st) x .world)) shows ∙ step-alike wd st .world,
   )
 
-  shown-count : s .player .count ≡ length (wd .places)
-  shown-count = sym (worldOf-count j s) ∙ ap (λ x. length (x .places)) shows ∙ forgotten-count wd
+  shown-count : s .player .count ≡ length (wd .sides)
+  shown-count = sym (worldOf-count j s) ∙ ap (λ x. length (x .sides)) shows ∙ forgotten-count wd
 
   -- where the world has room, every step fits
   module _ (r : Roomy wd) (records : length (s .records) ≡ 16) (tracks : length (s .tracks) ≡ 16) where
@@ -177,8 +177,8 @@ module _ (j : List Entry) (s : Stage) (wd : World) (shows : worldOf j s ≡ forg
 
     shown-lines : (w : ℕ) → w < s .player .count → (length (itemsOf (trackAt w s .line)) ≤ 16) × (length (itemsOf (trackAt w s .back)) ≤ 8)
     shown-lines w l =
-        let e = sym (worldOf-place j s (record { few = shown-few; records = records; tracks = tracks }) w l) ∙ ap (placeAt w) shows ∙ forgotten-at w wd in
-        let room = roomy-line (placeAt w wd) (r .each w (omega (arith, shown-count))) in (
+        let e = sym (worldOf-side j s (record { few = shown-few; records = records; tracks = tracks }) w l) ∙ ap (sideAt w) shows ∙ forgotten-at w wd in
+        let room = roomy-line (sideAt w wd) (r .each w (omega (arith, shown-count))) in (
           omega (arith, sym (length-map (itemsOf (trackAt w s .line)) _) ∙ ap (λ p. length (p .line)) e, room .0),
           omega (arith, sym (length-map (itemsOf (trackAt w s .back)) _) ∙ ap (λ p. length (p .back)) e, room .1),
         )

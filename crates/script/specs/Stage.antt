@@ -7,11 +7,11 @@ use lib.Dec.{leb, eqb}
 use Rattle.journal.specs.declared.Entry.{Entry}
 use Rattle.journal.specs.Entry.{placedAt}
 use Rattle.queue.specs.Items.{itemsOf}
-use Rattle.window.specs.declared.Record.{Record}
+use Rattle.record.specs.declared.Record.{Record}
 use Rattle.rules.specs.declared.Term.{Term}
-use Rattle.rules.specs.View.{State, normal, fetching, completed, suspended, WindowView}
+use Rattle.rules.specs.View.{Condition, normal, fetching, completed, suspended, WindowView}
 use Rattle.player.specs.View.{playerOf}
-use Rattle.delivery.specs.World.{Sent, Ack, Place, World, noPlace, placeAt, answered, empty}
+use Rattle.delivery.specs.World.{Sent, Ack, Side, World, noSide, sideAt, answered, empty}
 use Rattle.delivery.specs.World as W
 use Rattle.script.specs.declared.Track.{Track}
 use Rattle.script.specs.declared.Stage.{Stage}
@@ -31,8 +31,8 @@ abbrev pub ackOf : Term → ℕ → Ack
 ackOf t index = record { term = t; index = index }
 
 -- a window's side of the stage
-abbrev pub placeOf : List Entry → WindowView → Record → List ℕ → List ℕ → Place
-placeOf j v r line back = record {
+abbrev pub sideOf : List Entry → WindowView → Record → List ℕ → List ℕ → Side
+sideOf j v r line back = record {
   view = v;
   record′ = r;
   line = map (sentOf j (v .term)) line;
@@ -40,33 +40,33 @@ placeOf j v r line back = record {
   taken = [];
 }
 
--- the places of the windows from w on
-unfoldable pub placesOf : List Entry → List WindowView → List Record → List Track → List Place
-placesOf j [] rs ts = []
-placesOf j (v ∷ vs) [] ts = noPlace ∷ placesOf j vs [] ts
-placesOf j (v ∷ vs) (r ∷ rs) [] = noPlace ∷ placesOf j vs rs []
-placesOf j (v ∷ vs) (r ∷ rs) (t ∷ ts) = placeOf j v r (itemsOf (t .line)) (itemsOf (t .back)) ∷ placesOf j vs rs ts
+-- the sides of the windows from w on
+unfoldable pub sidesOf : List Entry → List WindowView → List Record → List Track → List Side
+sidesOf j [] rs ts = []
+sidesOf j (v ∷ vs) [] ts = noSide ∷ sidesOf j vs [] ts
+sidesOf j (v ∷ vs) (r ∷ rs) [] = noSide ∷ sidesOf j vs rs []
+sidesOf j (v ∷ vs) (r ∷ rs) (t ∷ ts) = sideOf j v r (itemsOf (t .line)) (itemsOf (t .back)) ∷ sidesOf j vs rs ts
 
 unfoldable pub worldOf : List Entry → Stage → World
 worldOf j s = record {
   journal = j;
   limit = playerOf (s .player) .limit;
   current = playerOf (s .player) .current;
-  places = placesOf j (playerOf (s .player) .windows) (s .records) (s .tracks);
+  sides = sidesOf j (playerOf (s .player) .windows) (s .records) (s .tracks);
 }
 
 -- a world without its history
-abbrev pub forget : Place → Place
+abbrev pub forget : Side → Side
 forget p = record { view = p .view; record′ = p .record′; line = p .line; back = p .back; taken = [] }
 
 unfoldable pub forgotten : World → World
-forgotten wd = record { journal = wd .journal; limit = wd .limit; current = wd .current; places = map forget (wd .places) }
+forgotten wd = record { journal = wd .journal; limit = wd .limit; current = wd .current; sides = map forget (wd .sides) }
 
 -- ------------------------------------------------------------------------
 -- A script's step as a step of the world: `main` and `catch` offer the index due, terms are current, the output lent has room for a batch of two
 
 -- the index due in a window that is Fetching; in any other the answer does not depend on it
-abbrev pub dueIn : State → ℕ
+abbrev pub dueIn : Condition → ℕ
 dueIn normal = 0
 dueIn (fetching n e) = n
 dueIn (completed e) = 0
@@ -74,9 +74,9 @@ dueIn suspended = 0
 
 abbrev pub stepIn : World → Step → W.Step
 stepIn wd Main = W.main (wd .current + 1)
-stepIn wd (Catch w) = W.catch w (placeAt w wd .view .term) (dueIn (placeAt w wd .view .state))
+stepIn wd (Catch w) = W.catch w (sideAt w wd .view .term) (dueIn (sideAt w wd .view .condition))
 stepIn wd (Send w) = W.send w (replicate 10 0)
-stepIn wd (Written w) = W.written w (placeAt w wd .view .term)
+stepIn wd (Written w) = W.written w (sideAt w wd .view .term)
 stepIn wd (AckStep w) = W.ack w
 stepIn wd (Drop w) = W.drop w
 stepIn wd (Join w) = W.join w

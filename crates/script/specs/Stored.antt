@@ -6,12 +6,12 @@ use mathlib.Core.Bool.{cond}
 use lib.ListN.{getD, set}
 use lib.Dec.{ltb, eqb}
 use Rattle.queue.specs.Items.{itemsOf, pushed}
-use Rattle.window.specs.declared.Record.{Record}
-use Rattle.window.specs.declared.Taken.{Taken}
-use Rattle.window.specs.Record.{newRecord}
-use Rattle.window.specs.Record as Window
+use Rattle.record.specs.declared.Record.{Record}
+use Rattle.record.specs.declared.Taken.{Taken}
+use Rattle.record.specs.Record.{newRecord}
+use Rattle.record.specs.Record as Window
 use Rattle.player.specs.declared.Played.{Played}
-use Rattle.held.specs.Promise.{numberOf}
+use Rattle.window.specs.Promise.{numberOf}
 use Rattle.script.specs.declared.Track.{Track}
 use Rattle.script.specs.declared.Stage.{Stage}
 use Rattle.script.specs.declared.Reply.the-variants.{Answered}

@@ -7,12 +7,11 @@ use lib.Seq.{map-set-same}
 use Rattle.journal.specs.declared.Entry.{Entry}
 use Rattle.journal.specs.Entry.{entriesOf}
 use Rattle.rules.specs.declared.Term.{Term}
-use Rattle.rules.specs.View.{State, normal, fetching, completed, suspended, WindowView, PlayerView, noWindow}
+use Rattle.rules.specs.View.{Condition, normal, fetching, completed, suspended, WindowView, PlayerView, noWindow}
 use Rattle.rules.specs.Window.{Turn, check, full, enqueue, wanted, mainAt, fetched, catchIn, catchAt, batchOf, launched, writtenAt, dropAt}
-use Rattle.rules.specs.Batches.{batchOf-kept}
+use Rattle.rules.specs.Offers.{batchOf-kept, operate-cases, mainRule-cases}
 use Rattle.rules.specs.Rules.{operate, mapWindows, mainRule, catchRule, writtenRule, dropRule}
-use Rattle.rules.specs.Laws.{operate-cases, mainRule-cases}
-use Rattle.script.specs.Places.{termsOf}
+use Rattle.script.specs.Sides.{termsOf}
 
 -- ------------------------------------------------------------------------
 -- one window
@@ -26,7 +25,7 @@ unfolding check
 check-term true n v t e = refl
 check-term false n v t e = e
 
-enqueue-term : (s : State) (i : ℕ) (v : WindowView) → enqueue s i v .term ≡ v .term
+enqueue-term : (s : Condition) (i : ℕ) (v : WindowView) → enqueue s i v .term ≡ v .term
 unfolding enqueue
 enqueue-term normal i v = cond-term (full (v .normalQueue)) _ _ v refl refl
 enqueue-term (fetching n e) i v = cond-term (full (v .normalQueue)) _ _ v refl refl
@@ -35,14 +34,14 @@ enqueue-term suspended i v = refl
 
 mainAt-term : (j : List Entry) (w i : ℕ) (v : WindowView) → mainAt j w i v .term ≡ v .term
 unfolding mainAt
-mainAt-term j w i v = cond-term (wanted j w i v) _ v v (enqueue-term (v .state) i v) refl
+mainAt-term j w i v = cond-term (wanted j w i v) _ v v (enqueue-term (v .condition) i v) refl
 
 fetched-term : (b : Bool) (n e : ℕ) (v : WindowView) → fetched b n e v .term ≡ v .term
 unfolding fetched
 fetched-term true n e v = refl
 fetched-term false n e v = refl
 
-catchIn-term : (s : State) (j : List Entry) (w i : ℕ) (v : WindowView) → catchIn s j w i v .next .term ≡ v .term
+catchIn-term : (s : Condition) (j : List Entry) (w i : ℕ) (v : WindowView) → catchIn s j w i v .next .term ≡ v .term
 unfolding catchIn
 catchIn-term normal j w i v = refl
 catchIn-term (fetching n e) j w i v = check-term _ 6 v _ (check-term _ 10 v _ (fetched-term (wanted j w n v) n e v))
@@ -51,7 +50,7 @@ catchIn-term suspended j w i v = refl
 
 catchAt-term : (j : List Entry) (w : ℕ) (t : Term) (i : ℕ) (v : WindowView) → catchAt j w t i v .next .term ≡ v .term
 unfolding catchAt
-catchAt-term j w t i v = check-term _ 3 v _ (check-term _ 5 v _ (catchIn-term (v .state) j w i v))
+catchAt-term j w t i v = check-term _ 3 v _ (check-term _ 5 v _ (catchIn-term (v .condition) j w i v))
 
 writtenAt-term : (t : Term) (v : WindowView) → writtenAt t v .next .term ≡ v .term
 unfolding writtenAt

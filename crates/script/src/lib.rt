@@ -4,7 +4,7 @@ mod play;
 
 use player::Player;
 use queue::Queue;
-use window::Record;
+use record::Record;
 
 // Both ways of a window's line. An entry on its way is twice its index, and one more where it is the last of its batch; an ack is its
 // index. Every term on a line is the window's own.

@@ -2,11 +2,11 @@
 use crate::Opened;
 use crate::Stage;
 use crate::Track;
-use held::Window;
 use journal::Index;
 use player::Player;
 use queue::Queue;
-use window::Record;
+use record::Record;
+use window::Window;
 ghost use mathlib.Core.Path.{_≡_};
 ghost use Rattle.player.specs.View.{playerOf};
 ghost use Rattle.script.specs.Opening.{noPlayer, aroundPlayer, Opens};

@@ -4,19 +4,19 @@ use crate::Stage;
 use crate::Step;
 use crate::Stepped;
 use crate::Track;
-use held::Condition;
 use journal::Index;
 use player::Played;
 use player::Player;
 use queue::Queue;
+use record::Record;
+use record::Taken;
 use rules::Term;
-use window::Record;
-use window::Taken;
+use window::Condition;
 ghost use Prim.Native.Nat.{_+_, _≤_, _<_};
 ghost use mathlib.Core.Path.{_≡_};
 ghost use Rattle.journal.specs.Entry.{entriesOf};
 ghost use Rattle.queue.specs.Items.{itemsOf};
-ghost use Rattle.held.specs.View.{stateOf};
+ghost use Rattle.window.specs.View.{conditionOf};
 ghost use Rattle.player.specs.View.{playerOf};
 ghost use Rattle.rules.specs.Rules.{windowAt};
 ghost use Rattle.script.specs.declared.Step.the-variants.{Main, Catch, Send, Written, Ack, Drop, Join, Take};
@@ -41,7 +41,7 @@ fn term_at(player: Player, w: u32) -> Term
 
 // The index due in a condition: the next one of Fetching, and 0 in any other.
 fn due_in(condition: Condition) -> Index
-    ensures { λ r. ⌜ r .0 ≡ dueIn (stateOf condition) ⌝ }
+    ensures { λ r. ⌜ r .0 ≡ dueIn (conditionOf condition) ⌝ }
 {
     match condition {
         Condition::Normal => Index(0),
@@ -54,7 +54,7 @@ fn due_in(condition: Condition) -> Index
 // The index due in window w, or 0 where there is no such window.
 fn due_at(player: Player, w: u32) -> Index
     requires { ⌜ player .count ≤ 16 ⌝ }
-    ensures { λ r. ⌜ r .0 ≡ dueIn (windowAt w (playerOf player) .state) ⌝ }
+    ensures { λ r. ⌜ r .0 ≡ dueIn (windowAt w (playerOf player) .condition) ⌝ }
 {
     if player.count <= w {
         return Index(0);

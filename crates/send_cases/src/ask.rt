@@ -1,9 +1,9 @@
 // What a letter asks of the player.
 use crate::bench::idle;
 use crate::show;
-use held::Window;
 use journal::Index;
 use player::Player;
+use window::Window;
 
 // Two windows, all of the journal read; window 0 has nothing to send.
 fn player(limit: u32, window: Window) -> Player {
@@ -40,7 +40,7 @@ pub(crate) fn send_many(journal: &[u32], limit: u32, window: Window, w: u32, siz
 // Send at a window by itself, lent five nines.
 pub(crate) fn send_alone(journal: &[u32], limit: u32, window: Window) {
     let mut out = [9; 5];
-    let turned = sending::send_at(window, journal, limit, &mut out);
+    let turned = window_send::send_at(window, journal, limit, &mut out);
     let answer = turned.answer;
     show::answer(answer);
     show::numbers(&out);

@@ -2,13 +2,13 @@
 // to them.
 use crate::ask;
 use crate::show;
-use held::Condition;
-use held::Head;
-use held::Window;
 use journal::Index;
 use queue::Batches;
 use queue::Queue;
 use rules::Term;
+use window::Condition;
+use window::Head;
+use window::Window;
 
 // Up to seventeen reports.
 struct Reports {

@@ -1,11 +1,11 @@
 // What a case shows: the answer, what the player then holds, and the output.
-use held::Answer;
-use held::Condition;
-use held::Head;
-use held::Window;
 use player::Played;
 use queue::Batches;
 use queue::Queue;
+use window::Answer;
+use window::Condition;
+use window::Head;
+use window::Window;
 
 // A byte as it stands.
 pub(crate) fn byte(b: u8) {

@@ -3,9 +3,9 @@ use Prim.Native.Nat.{ℕ}
 use mathlib.Core.Path.{_≡_}
 use mathlib.Core.List.{List, [], _∷_}
 use mathlib.Core.Bool.{true, false}
-use Rattle.window.specs.Record.{mayStamp}
-use Rattle.window.specs.Laws.{raceAt, ClosedAs}
-use Rattle.window.specs.Table.{posted, postedClosed, postedClosedPosted, row-h, row-j}
+use Rattle.record.specs.Record.{mayStamp}
+use Rattle.record.specs.Laws.{raceAt, ClosedAs}
+use Rattle.record.specs.Table.{posted, postedClosed, postedClosedPosted, row-h, row-j}
 use Rattle.rules.specs.View.{fetching}
 use Rattle.rules.specs.Rules.{windowAt, mainRule, joinRule, sendRule, batchAt}
 use Rattle.rules.specs.Table.{entriesFor0, countUp, oneWindow, queueing, outEight, away, row-b, row-c, row-d, row-e, row-f, row-g}
@@ -21,7 +21,7 @@ pub record ProvedTable : Type 0 where
   -- (b) Empty journal: Main gives 4.
   pub b : mainRule [] 1 (oneWindow 0 (queueing [])) .answer ≡ 4
   -- (c) 128 queued, one more Main entry: Fetching.
-  pub c : windowAt 0 (mainRule (entriesFor0 129) 129 (oneWindow 128 (queueing (countUp 128))) .next) .state ≡ fetching 129 129
+  pub c : windowAt 0 (mainRule (entriesFor0 129) 129 (oneWindow 128 (queueing (countUp 128))) .next) .condition ≡ fetching 129 129
   -- (d) 127 queued, one more: Normal.
   pub d : windowAt 0 (mainRule (entriesFor0 128) 128 (oneWindow 127 (queueing (countUp 127))) .next) ≡ queueing (countUp 128)
   -- (e) Eight batches out, line free: Send 9.
@@ -32,7 +32,7 @@ pub record ProvedTable : Type 0 where
       × (windowAt 0 (sendRule (entriesFor0 33) 0 160 (oneWindow 33 (queueing (countUp 33))) .next) .normalQueue ≡ 33 ∷ [])
   -- (g) Report equal to sent: joined; sent + 1: 13.
   pub g : (joinRule (entriesFor0 9) 0 5 (oneWindow 9 (away 3 5)) .answer ≡ 0)
-      × (windowAt 0 (joinRule (entriesFor0 9) 0 5 (oneWindow 9 (away 3 5)) .next) .state ≡ fetching 6 9)
+      × (windowAt 0 (joinRule (entriesFor0 9) 0 5 (oneWindow 9 (away 3 5)) .next) .condition ≡ fetching 6 9)
       × (joinRule (entriesFor0 9) 0 6 (oneWindow 9 (away 3 5)) .answer ≡ 13)
   -- (h) Second 50,399 with off 50,400: stamped; 50,400: not.
   pub h : (mayStamp posted 1 50399 ≡ true) × (mayStamp posted 1 50400 ≡ false)

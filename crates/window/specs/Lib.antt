@@ -1,4 +1,4 @@
--- The window's record: what an entry makes of it, what it allows, and laws.
-pub mod Record
-pub mod Laws
-pub mod Table
+-- What the player holds for one window: its view, what the operations at it promise, and what they ask first.
+pub mod View
+pub mod Promise
+pub mod Admission

@@ -5,7 +5,8 @@ use mathlib.Core.Path.{_≡_, _∙_}
 use lib.ListN.{length}
 use borrow.Author.Needs.{needs}
 use Rattle.queue.specs.Items.{batchesOf}
-use Rattle.queue.specs.Laws.{front-fits, front-over, all-held}
+use Rattle.queue.specs.Laws.{front-fits, front-over}
+use Rattle.lists.specs.All.{all-held}
 use Rattle.queue.proofs.Batches.within.Statement.{statement}
 use Rattle.queue.proofs.Batches.within.Tie as tie
 

@@ -4,7 +4,8 @@ use mathlib.Core.Path.{_≡_, refl}
 use lib.ListN.{drop}
 use borrow.Author.Needs.{needs}
 use borrow.Author.Tests.{le-leb, lt-leb}
-use Rattle.queue.specs.Items.{front, all, between}
+use Rattle.queue.specs.Items.{front}
+use Rattle.lists.specs.All.{all, between}
 use Rattle.queue.specs.Laws.{front-at, front-end}
 use Rattle.queue.proofs.cells.all_between.Statement.{statement}
 use Rattle.queue.proofs.cells.all_between.Tie as tie

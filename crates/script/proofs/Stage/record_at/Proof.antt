@@ -1,7 +1,7 @@
 -- Window w has a record below the count, and none above it.
 use native.Mathlib.Omega.{arith}
 use borrow.Author.Tests.{lt-ltb, le-ltb}
-use Rattle.window.specs.Record.{newRecord}
+use Rattle.record.specs.Record.{newRecord}
 use Rattle.player.specs.Views.{getD-any}
 use Rattle.script.proofs.Sixteen.{records-length}
 use borrow.Author.Needs.{needs}

@@ -2,7 +2,7 @@
 use mathlib.Core.Path.{_≡_, refl, sym, ap, subst, subst⁻¹, _∙_}
 use mathlib.Core.Bool.{true, true≢false}
 use borrow.Author.Tests.{not-true, not-false}
-use Rattle.journal.specs.Cases.{and-left, and-right, and-intro}
+use Rattle.lists.specs.Cases.{and-left, and-right, and-intro}
 use Rattle.journal.specs.Entry.{inShape, entriesOf}
 use Rattle.script.specs.declared.Step.{Step}
 use Rattle.script.specs.declared.Stepped.{Stepped}

@@ -1,7 +1,7 @@
 -- Window w is there below the count, and no window above it.
 use mathlib.Core.Path.{sym, ap, _∙_}
 use native.Mathlib.Omega.{arith}
-use Rattle.held.specs.View.{viewOf}
+use Rattle.window.specs.View.{viewOf}
 use Rattle.script.specs.Stage.{dueIn}
 use Rattle.script.specs.Worlds.{windowAt-none, windowAt-here}
 use Rattle.player.proofs.Sixteen.{windows-length}
@@ -10,7 +10,7 @@ use Rattle.script.proofs.play.due_at.Statement.{statement}
 use Rattle.script.proofs.play.due_at.Tie as tie
 
 returns : tie.Need-returns
-returns c = sym (ap (λ v. dueIn (v .state)) (windowAt-none (c .before .before .args .player) _ (c .if1 .taken)))
+returns c = sym (ap (λ v. dueIn (v .condition)) (windowAt-none (c .before .before .args .player) _ (c .if1 .taken)))
 
 mul-window : tie.Need-mul-window
 mul-window c = search needs
@@ -26,7 +26,7 @@ unfolding viewOf
 returns-2 c =
     let start = c .before .before .before .before .before .before in
     let long = windows-length (start .args .player) _ (start .good .0) in
-    c .due-in .ensures ∙ sym (ap (λ v. dueIn (v .state)) (windowAt-here (start .args .player) _ _ (c .before .before .before .before .if1 .left) (omega arith)))
+    c .due-in .ensures ∙ sym (ap (λ v. dueIn (v .condition)) (windowAt-here (start .args .player) _ _ (c .before .before .before .before .if1 .left) (omega arith)))
 
 pub due-at-spec : {M : Type 1} → statement M
 due-at-spec =

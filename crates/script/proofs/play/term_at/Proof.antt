@@ -1,7 +1,7 @@
 -- Window w is there below the count, and no window above it.
 use mathlib.Core.Path.{sym, ap}
 use native.Mathlib.Omega.{arith}
-use Rattle.held.specs.View.{viewOf}
+use Rattle.window.specs.View.{viewOf}
 use Rattle.script.specs.Worlds.{windowAt-none, windowAt-here}
 use Rattle.player.proofs.Sixteen.{windows-length}
 use borrow.Author.Needs.{needs}

@@ -1,3 +1,0 @@
--- What the player holds for one window: its view, and what the operations at it promise.
-pub mod View
-pub mod Promise

@@ -1,0 +1,70 @@
+-- A test of every item of a list.
+use Prim.Native.Nat.{ℕ, zero, suc}
+use mathlib.Core.Path.{_≡_, refl}
+use mathlib.Core.List.{List, [], _∷_, _++_}
+use mathlib.Core.Bool.{Bool, true, false, _&&_, _||_, and-assoc, and-eq-true-iff, false≢true}
+use borrow.Author.Tests.{eqb-true}
+use lib.ListN.{take, drop}
+use lib.Dec.{leb, eqb, leb·zero}
+use Rattle.lists.specs.Cases.{and-left, and-right}
+use Rattle.lists.specs.Elem.{elem}
+
+-- every item passes a test
+unfoldable pub all : (ℕ → Bool) → List ℕ → Bool
+all p [] = true
+all p (x ∷ xs) = p x && all p xs
+
+-- a number of low to high
+abbrev pub between : ℕ → ℕ → ℕ → Bool
+between low high x = leb low x && leb x high
+
+-- an index of 1 to l; an index of at most l
+abbrev pub queuedIn : ℕ → ℕ → Bool
+queuedIn l x = leb 1 x && leb x l
+
+abbrev pub heldIn : ℕ → ℕ → Bool
+heldIn l x = leb x l
+
+pub all-append : (p : ℕ → Bool) (xs ys : List ℕ) → all p (xs ++ ys) ≡ (all p xs && all p ys)
+unfolding all
+all-append p [] ys = refl
+all-append p (x ∷ xs) ys = rw (all-append p xs ys, and-assoc)
+
+pub all-cong : (p q : ℕ → Bool) → ((x : ℕ) → p x ≡ q x) → (xs : List ℕ) → all p xs ≡ all q xs
+unfolding all
+all-cong p q e [] = refl
+all-cong p q e (x ∷ xs) = rw (e x, all-cong p q e xs)
+
+pub all-weaken : (p q : ℕ → Bool) → ((x : ℕ) → p x ≡ true → q x ≡ true) → (xs : List ℕ) → all p xs ≡ true → all q xs ≡ true
+unfolding all
+all-weaken p q w [] h = refl
+all-weaken p q w (x ∷ xs) h =
+    let (hx, hs) = and-eq-true-iff (p x) (all p xs) .0 h in
+    rw (w x hx, all-weaken p q w xs hs)
+
+pub all-take : (p : ℕ → Bool) (k : ℕ) (xs : List ℕ) → all p xs ≡ true → all p (take k xs) ≡ true
+unfolding all
+all-take p zero xs h = refl
+all-take p (suc k) [] h = refl
+all-take p (suc k) (x ∷ xs) h =
+    let (hx, hs) = and-eq-true-iff (p x) (all p xs) .0 h in
+    rw (hx, all-take p k xs hs)
+
+pub all-drop : (p : ℕ → Bool) (k : ℕ) (xs : List ℕ) → all p xs ≡ true → all p (drop k xs) ≡ true
+unfolding all
+all-drop p zero xs h = h
+all-drop p (suc k) [] h = refl
+all-drop p (suc k) (x ∷ xs) h = all-drop p k xs (and-eq-true-iff (p x) (all p xs) .0 h .1)
+
+pub all-held : (l : ℕ) (xs : List ℕ) → all (between 0 l) xs ≡ all (heldIn l) xs
+all-held l = all-cong (between 0 l) (heldIn l) (λ x. rw leb·zero)
+
+-- a test that every item passes, a member passes
+pub all-elem : (p : ℕ → Bool) (i : ℕ) (xs : List ℕ) → all p xs ≡ true → elem i xs ≡ true → p i ≡ true
+unfolding all
+all-elem p i [] a e = absurd (false≢true e)
+all-elem p i (x ∷ xs) a e = go (eqb i x) refl e (all-elem p i xs (and-right (p x) _ a))
+  where
+    go : (b : Bool) → eqb i x ≡ b → (b || elem i xs) ≡ true → (elem i xs ≡ true → p i ≡ true) → p i ≡ true
+    go true q h ih = rw (eqb-true i x q) (and-left (p x) _ a)
+    go false q h ih = ih h

@@ -1,0 +1,1 @@
+// Lists and tests: definitions and laws in specs/ that several crates share, and no code.

@@ -1,2 +1,0 @@
--- Main and Catch at one window: what Main tests before its rule.
-pub mod Guards

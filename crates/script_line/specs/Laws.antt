@@ -1,0 +1,208 @@
+-- Laws of lines: what a word and a number read as, and that nothing else does.
+use Prim.{Unit, tt}
+use Prim.Native.Nat.{ℕ, _+_, _≤_, _<_}
+use mathlib.Core.Path.{_≡_, refl, sym, ap, ap₂, _∙_}
+use mathlib.Core.List.{List, [], _∷_, _++_, append-nil}
+use mathlib.Core.Bool.{Bool, true, false, _&&_, cond, and-eq-true-iff, false≢true}
+use borrow.Author.Tests.{eq-eqb, eqb-true, le-leb, leb-true}
+use native.Mathlib.Omega.{arith}
+use lib.ListN.{length, take, drop, length-append, length-take, take-append-drop}
+use lib.Seq.{take-append-seam, drop-append-seam, drop-length}
+use lib.Dec.{eqb, leb}
+use Rattle.decimal.specs.Numeral.{numeral, front, readAt}
+use Rattle.decimal.specs.Laws.{read-at, read-accepts}
+use Rattle.decimal.specs.declared.Numeral.{Numeral}
+use Rattle.decimal.specs.declared.Numeral.the-variants.{Number, Nothing}
+use Rattle.script_line.specs.declared.Order.{Order}
+use Rattle.script_line.specs.declared.Order.the-variants.{Main, Catch, Send, Written, Ack, Drop, Join, Take, Bad}
+use Rattle.script_line.specs.declared.Verb.{Verb}
+use Rattle.script_line.specs.declared.Windows.the-variants.{Count, Malformed}
+use Rattle.script_line.specs.Line.{same, numberAfter, orderFor, orElse, windowedOf, orderOf, wordOf, windowsOf}
+use Rattle.script_line.specs.Line.{mainWord, catchWord, sendWord, writtenWord, ackWord, dropWord, joinWord, takeWord, windowsWord}
+
+-- ------------------------------------------------------------------------
+-- same
+
+pub same-itself : (xs : List ℕ) → same xs xs ≡ true
+unfolding same
+same-itself [] = refl
+same-itself (x ∷ xs) = ap₂ (λ a b. a && b) (eq-eqb x x refl) (same-itself xs)
+
+pub same-equal : (xs ys : List ℕ) → same xs ys ≡ true → xs ≡ ys
+unfolding same
+same-equal [] [] e = refl
+same-equal [] (y ∷ ys) e = absurd (false≢true e)
+same-equal (x ∷ xs) [] e = absurd (false≢true e)
+same-equal (x ∷ xs) (y ∷ ys) e =
+    let both = and-eq-true-iff (eqb x y) (same xs ys) .0 e in ap₂ (λ a b. a ∷ b) (eqb-true x y (both .0)) (same-equal xs ys (both .1))
+
+pub same-other : (xs ys : List ℕ) → (xs ≡ ys → ⊥) → same xs ys ≡ false
+same-other xs ys differ = by (same xs ys) refl
+  where
+    by : (b : Bool) → same xs ys ≡ b → b ≡ false
+    by true e = absurd (differ (same-equal xs ys e))
+    by false e = refl
+
+-- no line is shorter than a word that it starts with
+pub same-short : (word line : List ℕ) → length line < length word → same (take (length word) line) word ≡ false
+same-short word line h = same-other _ _ (λ e. omega (arith, length-take (length word) line, ap length e))
+
+-- a test that is true exactly of equal lists
+pub same-decides : (xs ys : List ℕ) (r : Bool) → (r ≡ true → xs ≡ ys) → (xs ≡ ys → r ≡ true) → r ≡ same xs ys
+same-decides xs ys true is back = sym (ap (λ l. same l ys) (is refl) ∙ same-itself ys)
+same-decides xs ys false is back = by (same xs ys) refl
+  where
+    by : (b : Bool) → same xs ys ≡ b → false ≡ b
+    by true e = back (same-equal xs ys e)
+    by false e = refl
+
+-- ------------------------------------------------------------------------
+-- numberAfter
+
+-- what is written reads back
+pub numberAfter-reads : (word : List ℕ) (bound n : ℕ) → n ≤ bound
+    → numberAfter word bound (word ++ numeral n) ≡ Number n (length word + length (numeral n))
+unfolding numberAfter front
+numberAfter-reads word bound n h =
+    let r = read-at bound n (length word) (word ++ numeral n) [] h refl (drop-append-seam word (numeral n) ∙ sym (append-nil (numeral n))) in
+    simp (take-append-seam word (numeral n), same-itself word, r, length-append, eq-eqb (length word + length (numeral n)) _ refl)
+
+-- what is read was written
+pub record Holds (word : List ℕ) (bound : ℕ) (line : List ℕ) (n : ℕ) : Type 0 where
+  pub within : n ≤ bound
+  pub written : line ≡ word ++ numeral n
+
+nothing-number : (n next : ℕ) → Nothing ≡ Number n next → ⊥
+nothing-number n next e = let z : _≡_ {A = ℕ} 0 1 = cc in omega arith
+
+-- a word at the front, and after it a numeral up to the end
+holds-word : (word : List ℕ) (bound : ℕ) (line : List ℕ) (n next : ℕ) → take (length word) line ≡ word
+    → readAt bound line (length word) ≡ Number n next → next ≡ length line → Holds word bound line n
+holds-word word bound line n next starts r l =
+    let a = read-accepts bound line (length word) n next r in
+    let rest : drop (length word) line ≡ numeral n = a .stands ∙ rw (l, drop-length) (append-nil (numeral n)) in
+    record { within = a .within; written = (cc (take-append-drop (length word) line)) }
+
+pub numberAfter-accepts : (word : List ℕ) (bound : ℕ) (line : List ℕ) (n next : ℕ) → numberAfter word bound line ≡ Number n next
+    → Holds word bound line n
+unfolding numberAfter
+numberAfter-accepts word bound line n next e = by (same (take (length word) line) word) refl (readAt bound line (length word)) refl
+  where
+    by : (b : Bool) → same (take (length word) line) word ≡ b → (f : Numeral) → readAt bound line (length word) ≡ f → Holds word bound line n
+    by true p (Number m k) r = at-end (eqb k (length line)) refl
+      where
+        at-end : (b : Bool) → eqb k (length line) ≡ b → Holds word bound line n
+        at-end true q =
+            let s : Number m k ≡ Number n next = simp (p, r, q) at e in
+            let m-is : m ≡ n = cc in
+            holds-word word bound line n k (same-equal _ _ p) (rw m-is at r) (eqb-true k (length line) q)
+        at-end false q = absurd (nothing-number n next (simp (p, r, q) at e))
+    by true p Nothing r = absurd (nothing-number n next (simp (p, r) at e))
+    by false p f r = absurd (nothing-number n next (simp p at e))
+
+-- ------------------------------------------------------------------------
+-- orderOf
+
+-- a step with a window reads back
+pub orderOf-reads : (verb : Verb) (w : ℕ) → w ≤ 99 → orderOf (wordOf verb ++ numeral w) ≡ orderFor verb w
+unfolding orderOf numberAfter same
+orderOf-reads Verb.Catch w h = simp (numberAfter-reads catchWord 99 w h)
+orderOf-reads Verb.Send w h = simp (numberAfter-reads sendWord 99 w h)
+orderOf-reads Verb.Written w h = simp (numberAfter-reads writtenWord 99 w h)
+orderOf-reads Verb.Ack w h = simp (numberAfter-reads ackWord 99 w h)
+orderOf-reads Verb.Drop w h = simp (numberAfter-reads dropWord 99 w h)
+orderOf-reads Verb.Join w h = simp (numberAfter-reads joinWord 99 w h)
+orderOf-reads Verb.Take w h = simp (numberAfter-reads takeWord 99 w h)
+
+-- what a line is, by what it reads as: every step that is read was written
+unfoldable pub Says : List ℕ → Order → Type 0
+Says line Main = line ≡ mainWord
+Says line (Catch w) = Holds catchWord 99 line w
+Says line (Send w) = Holds sendWord 99 line w
+Says line (Written w) = Holds writtenWord 99 line w
+Says line (Ack w) = Holds ackWord 99 line w
+Says line (Drop w) = Holds dropWord 99 line w
+Says line (Join w) = Holds joinWord 99 line w
+Says line (Take w) = Holds takeWord 99 line w
+Says line Bad = Unit {0}
+
+says-verb : (verb : Verb) (line : List ℕ) (w : ℕ) → Holds (wordOf verb) 99 line w → Says line (orderFor verb w)
+unfolding Says
+says-verb Verb.Catch line w h = h
+says-verb Verb.Send line w h = h
+says-verb Verb.Written line w h = h
+says-verb Verb.Ack line w h = h
+says-verb Verb.Drop line w h = h
+says-verb Verb.Join line w h = h
+says-verb Verb.Take line w h = h
+
+says-or : (verb : Verb) (line : List ℕ) (o : Order) → Says line o → Says line (orElse (orderFor verb) (numberAfter (wordOf verb) 99 line) o)
+says-or verb line o s = by (numberAfter (wordOf verb) 99 line) refl
+  where
+    by : (f : Numeral) → numberAfter (wordOf verb) 99 line ≡ f → Says line (orElse (orderFor verb) f o)
+    by (Number w next) e = says-verb verb line w (numberAfter-accepts (wordOf verb) 99 line w next e)
+    by Nothing e = s
+
+pub orderOf-says : (line : List ℕ) → Says line (orderOf line)
+unfolding orderOf Says
+orderOf-says line = by (same line mainWord) refl
+  where
+    windowed : Says line (windowedOf line)
+    windowed =
+        says-or Verb.Catch line _
+        (says-or Verb.Send line _
+        (says-or Verb.Written line _
+        (says-or Verb.Ack line _ (says-or Verb.Drop line _ (says-or Verb.Join line _ (says-or Verb.Take line Bad tt))))))
+
+    by : (b : Bool) → same line mainWord ≡ b → Says line (cond b Main (windowedOf line))
+    by true e = same-equal line mainWord e
+    by false e = windowed
+
+-- ------------------------------------------------------------------------
+-- windowsOf
+
+pub windowsOf-reads : (n : ℕ) → 1 ≤ n → n ≤ 16 → windowsOf (windowsWord ++ numeral n) ≡ Count n
+unfolding windowsOf
+windowsOf-reads n p h = simp (numberAfter-reads windowsWord 16 n h, le-leb 1 n p)
+
+malformed-count : (n : ℕ) → Malformed ≡ Count n → ⊥
+malformed-count n e = let z : _≡_ {A = ℕ} 0 1 = cc in omega arith
+
+pub windowsOf-accepts : (line : List ℕ) (n : ℕ) → windowsOf line ≡ Count n → (1 ≤ n) × Holds windowsWord 16 line n
+unfolding windowsOf
+windowsOf-accepts line n e = by (numberAfter windowsWord 16 line) refl
+  where
+    by : (f : Numeral) → numberAfter windowsWord 16 line ≡ f → (1 ≤ n) × Holds windowsWord 16 line n
+    by (Number m next) r = counted (leb 1 m) refl
+      where
+        counted : (b : Bool) → leb 1 m ≡ b → (1 ≤ n) × Holds windowsWord 16 line n
+        counted true q =
+            let s : Count m ≡ Count n = simp (r, q) at e in
+            let m-is : m ≡ n = cc in
+            (rw m-is at (leb-true 1 m q), numberAfter-accepts windowsWord 16 line n next (rw m-is at r))
+        counted false q = absurd (malformed-count n (simp (r, q) at e))
+    by Nothing r = absurd (malformed-count n (simp r at e))
+
+-- ------------------------------------------------------------------------
+-- examples
+
+read-catch : orderOf (catchWord ++ (57 ∷ 57 ∷ [])) ≡ Catch 99
+unfolding orderOf numberAfter same readAt
+read-catch = refl
+
+-- a window of 100, a leading zero, a second blank and a blank after the number are malformed
+read-hundred : orderOf (catchWord ++ (49 ∷ 48 ∷ 48 ∷ [])) ≡ Bad
+unfolding orderOf numberAfter same readAt
+read-hundred = refl
+
+read-zero : orderOf (catchWord ++ (48 ∷ 57 ∷ [])) ≡ Bad
+unfolding orderOf numberAfter same readAt
+read-zero = refl
+
+read-blank : orderOf (catchWord ++ (32 ∷ 57 ∷ [])) ≡ Bad
+unfolding orderOf numberAfter same readAt
+read-blank = refl
+
+read-after : orderOf (catchWord ++ (57 ∷ 32 ∷ [])) ≡ Bad
+unfolding orderOf numberAfter same readAt
+read-after = refl

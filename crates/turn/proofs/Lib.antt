@@ -1,2 +1,0 @@
--- Laws of a turn, for every crate whose functions make one.
-pub mod Kept

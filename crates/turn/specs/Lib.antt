@@ -1,2 +1,0 @@
--- What the operations at one window share: what they test before their rules.
-pub mod Guards

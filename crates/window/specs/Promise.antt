@@ -1,0 +1,34 @@
+-- What the operations at one window promise: document 01's number for each answer, and the equations between code and rule.
+use Prim.Native.Nat.{ℕ}
+use mathlib.Core.Path.{_≡_}
+use Rattle.window.specs.declared.Answer.{Answer}
+use Rattle.window.specs.declared.Answer.the-variants.{Done, OutOfShape, NoSuchWindow, Suspended, NothingToRead, OtherTerm, OtherIndex, NothingReady, LineState, TooManyBatches, CatchUpFull, NoSuchBatch, NotSuspended, BadReport, LastTerm, OutputTooShort}
+use Rattle.window.specs.declared.Window.{Window}
+use Rattle.window.specs.declared.Turned.{Turned}
+use Rattle.window.specs.View.{viewOf}
+use Rattle.rules.specs.Window.{Turn}
+
+abbrev pub numberOf : Answer → ℕ
+numberOf Done = 0
+numberOf OutOfShape = 1
+numberOf NoSuchWindow = 2
+numberOf Suspended = 3
+numberOf NothingToRead = 4
+numberOf OtherTerm = 5
+numberOf OtherIndex = 6
+numberOf NothingReady = 7
+numberOf LineState = 8
+numberOf TooManyBatches = 9
+numberOf CatchUpFull = 10
+numberOf NoSuchBatch = 11
+numberOf NotSuspended = 12
+numberOf BadReport = 13
+numberOf LastTerm = 14
+numberOf OutputTooShort = 17
+
+-- an operation at one window: its answer and the view of the next state are the rule's, and a refusal gives back the window handed in,
+-- stale cells too
+pub record MeetsWindow (before : Window) (r : Turned) (t : Turn) : Type 0 where
+  pub answer : numberOf (r .answer) ≡ t .answer
+  pub next : viewOf (r .window) ≡ t .next
+  pub unchanged : (t .answer ≡ 0 → ⊥) → r .window ≡ before
