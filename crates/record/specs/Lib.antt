@@ -1,4 +1,3 @@
 -- The window's record: what an entry makes of it, what it allows, and laws.
 pub mod Record
 pub mod Laws
-pub mod Table

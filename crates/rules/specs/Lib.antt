@@ -3,7 +3,6 @@ pub mod View
 pub mod Shape
 pub mod Window
 pub mod Rules
-pub mod Table
 pub mod Turns
 pub mod Batches
 pub mod Moves

@@ -1,2 +1,3 @@
 -- The proved table of document 01, (a) to (j), as one theorem about the rules.
+pub mod States
 pub mod Table

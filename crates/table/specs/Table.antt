@@ -1,19 +1,23 @@
 -- The proved table of document 01, together as one theorem about the rules. The paper's words stand beside each row.
 use Prim.Native.Nat.{ℕ}
-use mathlib.Core.Path.{_≡_}
+use mathlib.Core.Path.{_≡_, refl}
 use mathlib.Core.List.{List, [], _∷_}
 use mathlib.Core.Bool.{true, false}
-use Rattle.record.specs.Record.{mayStamp}
+use native.Mathlib.Omega.{arith}
+use Rattle.journal.specs.Entry.{entriesOf, numbersOf, entryAt, hasWindow, isFor}
+use Rattle.lists.specs.All.{all}
+use Rattle.record.specs.Record.{raceAfter, racesAfter, recordAfter, takeEntry, takeAll, mayStamp}
 use Rattle.record.specs.Laws.{raceAt, ClosedAs}
-use Rattle.record.specs.Table.{posted, postedClosed, postedClosedPosted, row-h, row-j}
 use Rattle.rules.specs.View.{fetching}
-use Rattle.rules.specs.Rules.{windowAt, mainRule, joinRule, sendRule, batchAt}
-use Rattle.rules.specs.Table.{entriesFor0, countUp, oneWindow, queueing, outEight, away, row-b, row-c, row-d, row-e, row-f, row-g}
+use Rattle.rules.specs.Shape.{windowShape, allWindows, shape}
+use Rattle.rules.specs.Window.{check, enqueue, mainAt, readyIn, batchOf, launched, sendAt, joinAt}
+use Rattle.rules.specs.Rules.{windowAt, operate, mapWindows, mainRule, joinRule, sendRule, batchAt}
 use Rattle.journal_text.specs.Text.{header}
+use Rattle.journal_text.specs.Scan.{scan}
 use Rattle.journal_text.specs.Answers.{answer}
-use Rattle.journal_text.specs.AnswerLaws.{Reads}
-use Rattle.journal_text.specs.RoundTrip.{row-i}
+use Rattle.journal_text.specs.AnswerLaws.{Reads, reads-good, reads-bad}
 use Rattle.delivery.specs.Examples.{RunA, row-a}
+use Rattle.table.specs.States.{entriesFor0, countUp, oneWindow, queueing, outEight, away, posted, postedClosed, postedClosedPosted}
 
 pub record ProvedTable : Type 0 where
   -- (a) The run above.
@@ -38,11 +42,24 @@ pub record ProvedTable : Type 0 where
   pub h : (mayStamp posted 1 50399 ≡ true) × (mayStamp posted 1 50400 ≡ false)
   -- (i) Header alone: no entries; no bytes: 16 at 0. The output is as it was.
   pub i : (out : List ℕ) → Reads header out (answer 0 (0 ∷ [])) out × Reads [] out (answer 16 (0 ∷ [])) out
-  -- (j) POST after CLOSE: still closed.
+  -- (j) POST after CLOSE: still closed, with its off second as it was, no race changed, and no second stamped.
   pub j : ClosedAs (raceAt postedClosed 0) (raceAt postedClosedPosted 0)
       × (raceAt postedClosedPosted 0 .off ≡ 50400)
       × (postedClosedPosted .races ≡ postedClosed .races)
       × ((second : ℕ) → mayStamp postedClosedPosted 1 second ≡ false)
 
+-- Each row but (i) is computed.
 pub proved-table : ProvedTable
-proved-table = record { a = row-a; b = row-b; c = row-c; d = row-d; e = row-e; f = row-f; g = row-g; h = row-h; i = row-i; j = row-j }
+unfolding mainRule joinRule sendRule operate mapWindows shape windowShape allWindows all check enqueue mainAt readyIn batchOf launched sendAt joinAt countUp numbersOf entriesOf entryAt hasWindow isFor takeAll takeEntry recordAfter racesAfter raceAfter mayStamp scan
+proved-table = record {
+  a = row-a;
+  b = refl;
+  c = refl;
+  d = refl;
+  e = refl;
+  f = (refl, refl, refl);
+  g = (refl, refl, refl);
+  h = (refl, refl);
+  i = λ out. (reads-good header out [] refl (omega arith), reads-bad [] out [] 0 refl);
+  j = (record { closed = refl; off = refl }, refl, refl, λ second. refl);
+}
