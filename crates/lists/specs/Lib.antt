@@ -5,3 +5,4 @@ pub mod All
 pub mod Elem
 pub mod Rising
 pub mod Over
+pub mod Replaced
