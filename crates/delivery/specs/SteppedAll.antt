@@ -17,11 +17,15 @@ use Rattle.rules.specs.Offers.{MainDone, mainRule-done, mainRule-refuses, mainN
 use Rattle.delivery.specs.World.{Side, World, noSide, sideAt, numbersIn, playerIn, withView, withViews, withPlayer, Step, main, catch, written, send, ack, late-ack, drop, join, start, append, cleared, reportsIn, step}
 use Rattle.delivery.specs.World as W
 use Rattle.delivery.specs.Invariant.{lastOf}
-use Rattle.delivery.specs.Worlds.{entries-in, count-in, window-in, windows-in, withViews-length, withViews-at, withPlayer-same, withPlayer-player}
+use Rattle.delivery.specs.Worlds.{entries-in, count-in, window-in, windows-in, withViews-length, withViews-at, withPlayer-player}
 use Rattle.delivery.specs.Effects.{Mained, stays, mains, Restarted, Facts, working, starting, appending}
 use Rattle.delivery.specs.Effects as E
-use Rattle.delivery.specs.Stepped.{calledThen-refused, calledThen-done, call-refused, facts-catch, facts-written, facts-late, facts-drop}
+use Rattle.delivery.specs.Stepped.{calledThen-done, called-then, call-refused, facts-catch, facts-written, facts-late, facts-drop}
 use Rattle.delivery.specs.SteppedLine.{facts-join, facts-send, facts-ack, facts-take}
+
+-- every line emptied
+abbrev clearedAll : World → World
+clearedAll wd = record { journal = wd .journal; limit = wd .limit; current = wd .current; sides = map cleared (wd .sides) }
 
 module _ (wd : World) (shaped : shape (numbersIn wd) (playerIn wd) ≡ true) where
   -- ------------------------------------------------------------------------
@@ -46,7 +50,7 @@ module _ (wd : World) (shaped : shape (numbersIn wd) (playerIn wd) ≡ true) whe
             ∙ mainNext-at (numbersIn wd) i (playerIn wd) w
             ∙ ap₂ (λ j v. mainAt j w i v) (entries-in wd) (window-in w wd)
             ∙ ap (λ i. mainAt (wd .journal) w i (sideAt w wd .view)) i≡);
-        shaped = ap (shape (numbersIn wd)) (withPlayer-player wd (o .next) n) ∙ main-shaped (numbersIn wd) (playerIn wd) shaped i;
+        shaped = ap (shape (numbersIn wd)) (withPlayer-player wd (o .next) n) ∙ main-shaped (numbersIn wd) i (playerIn wd) shaped;
       }
 
   pub main-moves : (i : ℕ) → mainRule (numbersIn wd) i (playerIn wd) .answer ≡ 0 → Mained wd (step (main i) wd .world)
@@ -58,7 +62,8 @@ module _ (wd : World) (shaped : shape (numbersIn wd) (playerIn wd) ≡ true) whe
   facts-main i =
       ⊎-elim
       (λ (e : mainRule (numbersIn wd) i (playerIn wd) .answer ≡ 0). working refl (mains (main-moves i e)))
-      (λ (n : mainRule (numbersIn wd) i (playerIn wd) .answer ≡ 0 → ⊥). call-refused wd (main i) _ refl refl (mainRule-refuses (numbersIn wd) i (playerIn wd) n))
+      (λ (n : mainRule (numbersIn wd) i (playerIn wd) .answer ≡ 0 → ⊥).
+      call-refused wd (main i) _ (λ x. x) (called-then _ wd) refl n (mainRule-refuses (numbersIn wd) i (playerIn wd) n))
       (eq-or-ne (mainRule (numbersIn wd) i (playerIn wd) .answer) 0)
 
   -- ------------------------------------------------------------------------
@@ -76,8 +81,7 @@ module _ (wd : World) (shaped : shape (numbersIn wd) (playerIn wd) ≡ true) whe
   restarted b e =
       let o : Outcome = startRule (numbersIn wd) (length (wd .sides)) b (reportsIn wd) (playerIn wd) in
       let d : StartDone (numbersIn wd) (length (wd .sides)) b (reportsIn wd) o = startRule-done (numbersIn wd) (length (wd .sides)) b (reportsIn wd) (playerIn wd) e in
-      let all : World → World = λ wd′. record { journal = wd′ .journal; limit = wd′ .limit; current = wd′ .current; sides = map cleared (wd′ .sides) } in
-      let is : step (start b) wd .world ≡ all (withPlayer (o .next) wd) = calledThen-done o all wd e in
+      let is : step (start b) wd .world ≡ clearedAll (withPlayer (o .next) wd) = calledThen-done o clearedAll wd e in
       let n : length (o .next .windows) ≡ length (wd .sides)
       = ap (λ q. length (q .windows)) (d .next) ∙ length-map (reportsIn wd) started ∙ length-map (wd .sides) lastOf in
       let reports : length (reportsIn wd) ≡ length (wd .sides) = length-map (wd .sides) lastOf in
@@ -107,10 +111,7 @@ module _ (wd : World) (shaped : shape (numbersIn wd) (playerIn wd) ≡ true) whe
       ⊎-elim
       (λ (e : o .answer ≡ 0). starting b refl (eq-eqb _ 0 e) (restarted b e))
       (λ (n : o .answer ≡ 0 → ⊥).
-      working (ne-eqb _ 0 n)
-      (stays
-      (calledThen-refused o (λ wd′. record { journal = wd′ .journal; limit = wd′ .limit; current = wd′ .current; sides = map cleared (wd′ .sides) }) wd n
-      ∙ withPlayer-same wd (o .next) (startRule-refuses (numbersIn wd) (length (wd .sides)) b (reportsIn wd) (playerIn wd) n))))
+      call-refused wd (start b) o clearedAll refl (ne-eqb _ 0 n) n (startRule-refuses (numbersIn wd) (length (wd .sides)) b (reportsIn wd) (playerIn wd) n))
       (eq-or-ne (o .answer) 0)
 
   -- ------------------------------------------------------------------------
