@@ -3,21 +3,18 @@
 use Prim.Native.Nat.{ℕ, _<_}
 use mathlib.Core.Path.{_≡_, refl, sym, ap, subst⁻¹, subst₂, _∙_}
 use mathlib.Core.Logic.{⊎-elim}
-use mathlib.Core.List.{List}
 use mathlib.Core.Bool.{Bool, true, false, cond, _||_}
 use native.Mathlib.Omega.{arith}
 use borrow.Author.Tests.{eq-eqb, ne-eqb, lt-leb, ltb-true}
 use lib.ListN.{length}
 use lib.Seq.{set-getD}
 use lib.Dec.{ltb, leb, eqb}
-use Rattle.journal.specs.declared.Entry.{Entry}
 use Rattle.lists.specs.Cases.{eq-or-ne, true-or-false}
 use Rattle.rules.specs.declared.Term.{Term}
 use Rattle.rules.specs.View.{WindowView, PlayerView}
 use Rattle.rules.specs.Shape.{shape}
-use Rattle.rules.specs.Window.{wanted, fetched, freed, dropped}
 use Rattle.rules.specs.Rules.{Outcome, withWindow, catchRule, writtenRule, ackRule, dropRule}
-use Rattle.rules.specs.Offers.{LawfulRule, Caught, WrittenOff, DroppedOff, catchRule-lawful, writtenRule-lawful, ackRule-lawful, dropRule-lawful}
+use Rattle.rules.specs.Offers.{Effect, LawfulRule, catchEffect, catchRule-lawful, writtenEffect, writtenRule-lawful, ackRule-lawful, dropEffect, dropRule-lawful}
 use Rattle.delivery.specs.World.{Side, World, noSide, sideAt, numbersIn, playerIn, withView, withPlayer, withSide, Step, catch, written, late-ack, drop, answered, called, calledThen, step}
 use Rattle.delivery.specs.Statement.{begins}
 use Rattle.delivery.specs.Worlds.{entries-in, window-in, windows-in, withPlayer-same, withPlayer-window, withSide-here, withSide-twice, withSide-player}
@@ -69,39 +66,36 @@ shape-after wd w q v p′ wd′ e s is same =
     subst⁻¹ (λ x. shape (numbersIn x) (playerIn x) ≡ true) is
     (ap (shape (numbersIn wd)) (withSide-player w p′ wd ∙ ap (λ v. withWindow w v (playerIn wd)) same ∙ sym e) ∙ s)
 
--- a step that calls an operation on window w with outcome o, whose law is T and `after`, and where it is answered 0 makes g of that
--- window's side after it
-pub record CallAt (s : Step) (wd : World) (w : ℕ) (o : Outcome) (T : List Entry → WindowView → Type 0)
-    (after : (j : List Entry) (v : WindowView) → T j v → WindowView) (g : Side → Side) : Type 0 where
-  pub lawful : LawfulRule (numbersIn wd) w (playerIn wd) o T after
+-- a step that calls an operation on window w, with outcome o and effect x, and where it is answered 0 makes g of that window's side
+-- after it
+pub record CallAt (s : Step) (wd : World) (w : ℕ) (o : Outcome) (x : Effect) (g : Side → Side) : Type 0 where
+  pub lawful : LawfulRule (numbersIn wd) w (playerIn wd) o x
   pub change : World → World
   pub calls : step s wd ≡ calledThen o change wd
-  pub here : (x : World) → change x ≡ withSide w (g (sideAt w x)) x
+  pub here : (wd′ : World) → change wd′ ≡ withSide w (g (sideAt w wd′)) wd′
   pub views : (p : Side) → g p .view ≡ p .view
 
--- such a step answered 0, with the world's journal and window in the place of the rules'
-pub record DoneAt (s : Step) (wd : World) (w : ℕ) (T : List Entry → WindowView → Type 0)
-    (after : (j : List Entry) (v : WindowView) → T j v → WindowView) (g : Side → Side) : Type 0 where
+-- such a step answered 0, said of the world's journal and window
+pub record DoneAt (s : Step) (wd : World) (w : ℕ) (x : Effect) (g : Side → Side) : Type 0 where
   pub within : w < length (wd .sides)
-  pub turn : T (wd .journal) (sideAt w wd .view)
-  pub world : step s wd .world ≡ withSide w (g (withView (after (wd .journal) (sideAt w wd .view) turn) (sideAt w wd))) wd
+  pub turn : x .tells (wd .journal) (sideAt w wd .view)
+  pub world : step s wd .world ≡ withSide w (g (withView (x .makes (wd .journal) (sideAt w wd .view) turn) (sideAt w wd))) wd
   pub shaped : shape (numbersIn (step s wd .world)) (playerIn (step s wd .world)) ≡ true
 
 -- a call alone
-pub call-alone : {s : Step} {wd : World} {w : ℕ} {o : Outcome} {T : List Entry → WindowView → Type 0} {after : (j : List Entry) (v : WindowView) → T j v → WindowView} →
-    LawfulRule (numbersIn wd) w (playerIn wd) o T after → step s wd ≡ called o wd → CallAt s wd w o T after (λ p. p)
+call-alone : {s : Step} {wd : World} {w : ℕ} {o : Outcome} {x : Effect} → LawfulRule (numbersIn wd) w (playerIn wd) o x →
+    step s wd ≡ called o wd → CallAt s wd w o x (λ p. p)
 call-alone {wd = wd} {w = w} {o = o} law is =
-    record { lawful = law; change = λ x. x; calls = is ∙ called-then o wd; here = λ x. sym (withSide-same w x); views = λ p. refl }
+    record { lawful = law; change = λ wd′. wd′; calls = is ∙ called-then o wd; here = λ wd′. sym (withSide-same w wd′); views = λ p. refl }
 
-module _ {s : Step} {wd : World} {w : ℕ} {o : Outcome} {T : List Entry → WindowView → Type 0} {after : (j : List Entry) (v : WindowView) → T j v → WindowView}
-    {g : Side → Side} (k : CallAt s wd w o T after g) where
-  pub call-done : shape (numbersIn wd) (playerIn wd) ≡ true → o .answer ≡ 0 → DoneAt s wd w T after g
+module _ {s : Step} {wd : World} {w : ℕ} {o : Outcome} {x : Effect} {g : Side → Side} (k : CallAt s wd w o x g) where
+  pub call-done : shape (numbersIn wd) (playerIn wd) ≡ true → o .answer ≡ 0 → DoneAt s wd w x g
   call-done shaped e =
       let p : Side = sideAt w wd in
       let d = k .lawful .does e in
       let h : w < length (wd .sides) = within-in wd w (d .within) in
-      let (t, same) = subst₂ (λ j v. (t : T j v) × (after _ _ (d .turn) ≡ after j v t)) (entries-in wd) (window-in w wd) (d .turn, refl) in
-      let v′ : WindowView = after (wd .journal) (p .view) t in
+      let (t, same) = subst₂ (λ j v. (t : x .tells j v) × (x .makes _ _ (d .turn) ≡ x .makes j v t)) (entries-in wd) (window-in w wd) (d .turn, refl) in
+      let v′ : WindowView = x .makes (wd .journal) (p .view) t in
       let next : o .next ≡ withWindow w v′ (playerIn wd) = d .next ∙ ap (λ v. withWindow w v (playerIn wd)) same in
       let is : step s wd .world ≡ withSide w (g (withView v′ p)) wd
       = ap (λ r. r .world) (k .calls)
@@ -119,8 +113,8 @@ module _ {s : Step} {wd : World} {w : ℕ} {o : Outcome} {T : List Entry → Win
 
   -- it does a piece of the window's work
   pub call-works : shape (numbersIn wd) (playerIn wd) ≡ true → o .answer ≡ 0 →
-      ((t : T (wd .journal) (sideAt w wd .view)) →
-      Worked (wd .journal) (wd .limit) w (sideAt w wd) (g (withView (after (wd .journal) (sideAt w wd .view) t) (sideAt w wd)))) → WorksAt s wd w
+      ((t : x .tells (wd .journal) (sideAt w wd .view)) →
+      Worked (wd .journal) (wd .limit) w (sideAt w wd) (g (withView (x .makes (wd .journal) (sideAt w wd .view) t) (sideAt w wd)))) → WorksAt s wd w
   call-works shaped e work =
       let d = call-done shaped e in
       record { within = d .within; after = _; work = work (d .turn); world = d .world; shaped = d .shaped }
@@ -134,8 +128,7 @@ module _ {s : Step} {wd : World} {w : ℕ} {o : Outcome} {T : List Entry → Win
 -- Catch, Written, a late Ack, Drop
 
 module _ (wd : World) (shaped : shape (numbersIn wd) (playerIn wd) ≡ true) where
-  catch-call : (w : ℕ) (t : Term) (i : ℕ) →
-      CallAt (catch w t i) wd w (catchRule (numbersIn wd) w t i (playerIn wd)) (λ j v. Caught j w t i v) (λ j v c. fetched (wanted j w i v) i (c .upto) v) (λ p. p)
+  catch-call : (w : ℕ) (t : Term) (i : ℕ) → CallAt (catch w t i) wd w (catchRule (numbersIn wd) w t i (playerIn wd)) (catchEffect w t i) (λ p. p)
   unfolding step
   catch-call w t i = call-alone (catchRule-lawful (numbersIn wd) w t i (playerIn wd)) refl
 
@@ -145,7 +138,7 @@ module _ (wd : World) (shaped : shape (numbersIn wd) (playerIn wd) ≡ true) whe
   pub facts-catch : (w : ℕ) (t : Term) (i : ℕ) → Facts (catch w t i) wd
   facts-catch w t i = call-facts (catch-call w t i) (λ n. refl) (λ e. works-facts wd w (catch w t i) refl (catch-works w t i e))
 
-  written-call : (w : ℕ) (t : Term) → CallAt (written w t) wd w (writtenRule (numbersIn wd) w t (playerIn wd)) (λ j v. WrittenOff t v) (λ j v c. freed v) (λ p. p)
+  written-call : (w : ℕ) (t : Term) → CallAt (written w t) wd w (writtenRule (numbersIn wd) w t (playerIn wd)) (writtenEffect t) (λ p. p)
   unfolding step
   written-call w t = call-alone (writtenRule-lawful (numbersIn wd) w t (playerIn wd)) refl
 
@@ -176,7 +169,7 @@ module _ (wd : World) (shaped : shape (numbersIn wd) (playerIn wd) ≡ true) whe
       (λ (young : (leb (length (wd .sides)) w || ltb (t .0) (sideAt w wd .view .term .0)) ≡ false). working refl (stays (rw young)))
       (true-or-false (leb (length (wd .sides)) w || ltb (t .0) (sideAt w wd .view .term .0)))
 
-  drop-call : (w : ℕ) → CallAt (drop w) wd w (dropRule (numbersIn wd) w (playerIn wd)) (λ j v. DroppedOff v) (λ j v c. dropped v) (λ p. p)
+  drop-call : (w : ℕ) → CallAt (drop w) wd w (dropRule (numbersIn wd) w (playerIn wd)) dropEffect (λ p. p)
   unfolding step
   drop-call w = call-alone (dropRule-lawful (numbersIn wd) w (playerIn wd)) refl
 

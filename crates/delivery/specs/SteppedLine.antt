@@ -8,9 +8,9 @@ use borrow.Author.Tests.{eq-eqb, ne-eqb, lt-ltb, le-ltb}
 use lib.ListN.{length}
 use Rattle.lists.specs.Cases.{le-or-lt}
 use Rattle.rules.specs.Shape.{shape}
-use Rattle.rules.specs.Window.{batchOf, launched, acknowledged, joined}
+use Rattle.rules.specs.Window.{batchOf}
 use Rattle.rules.specs.Rules.{ackRule, joinRule, sendRule}
-use Rattle.rules.specs.Offers.{SentOut, AckTaken, JoinedOn, sendRule-lawful, ackRule-lawful, joinRule-lawful}
+use Rattle.rules.specs.Offers.{sendEffect, sendRule-lawful, ackEffect, ackRule-lawful, joinEffect, joinRule-lawful}
 use Rattle.delivery.specs.World.{Sent, Ack, Side, World, sideAt, numbersIn, playerIn, withLines, withSide, onLine, takeFront, send, ack, join, launch, takeAtLine, ackAtLine, cleared, step}
 use Rattle.delivery.specs.World as W
 use Rattle.delivery.specs.Invariant.{lastOf}
@@ -24,8 +24,7 @@ module _ (wd : World) (shaped : shape (numbersIn wd) (playerIn wd) ≡ true) whe
   -- Join
 
   join-call : (w : ℕ) →
-      CallAt (join w) wd w (joinRule (numbersIn wd) w (lastOf (sideAt w wd)) (playerIn wd)) (λ j v. JoinedOn j w (wd .current) (lastOf (sideAt w wd)) v)
-      (λ j v c. joined (wd .current) (lastOf (sideAt w wd)) v) cleared
+      CallAt (join w) wd w (joinRule (numbersIn wd) w (lastOf (sideAt w wd)) (playerIn wd)) (joinEffect w (wd .current) (lastOf (sideAt w wd))) cleared
   unfolding step
   join-call w =
       record {
@@ -50,8 +49,7 @@ module _ (wd : World) (shaped : shape (numbersIn wd) (playerIn wd) ≡ true) whe
   batchPut w p = withLines (p .line ++ onLine (wd .journal) (sideAt w wd .view .term) (batchOf (wd .limit) (sideAt w wd .view) .indices)) (p .back) p
 
   send-call : (w : ℕ) (out : List ℕ) →
-      CallAt (send w out) wd w (sendRule (numbersIn wd) w (length out) (playerIn wd)) (λ j v. SentOut (wd .limit) (length out) v)
-      (λ j v c. launched (batchOf (wd .limit) v)) (batchPut w)
+      CallAt (send w out) wd w (sendRule (numbersIn wd) w (length out) (playerIn wd)) (sendEffect (wd .limit) (length out)) (batchPut w)
   unfolding step batchPut
   send-call w out =
       record {
@@ -80,8 +78,8 @@ module _ (wd : World) (shaped : shape (numbersIn wd) (playerIn wd) ≡ true) whe
   ack-line w b h front = simp (lt-ltb w (length (wd .sides)) h) (ap (λ b. ackAtLine w b wd) front)
 
   ack-call : (w : ℕ) (a : Ack) (rest : List Ack) → w < length (wd .sides) → sideAt w wd .back ≡ a ∷ rest →
-      CallAt (ack w) wd w (ackRule (numbersIn wd) w (a .term) (a .index) (playerIn wd)) (λ j v. AckTaken (a .term) (a .index) v)
-      (λ j v c. acknowledged (a .index) v) (λ p. withLines (p .line) rest p)
+      CallAt (ack w) wd w (ackRule (numbersIn wd) w (a .term) (a .index) (playerIn wd)) (ackEffect (a .term) (a .index))
+      (λ p. withLines (p .line) rest p)
   ack-call w a rest h front =
       record {
         lawful = ackRule-lawful (numbersIn wd) w (a .term) (a .index) (playerIn wd);

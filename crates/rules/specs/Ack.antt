@@ -18,7 +18,7 @@ use Rattle.rules.specs.Rules.{windowAt, ackRule}
 use Rattle.rules.specs.Checks.{Decides, done-decides, check-decides, otherTerm-same, otherTerm-own}
 use Rattle.rules.specs.Shaped.{WindowShaped}
 use Rattle.rules.specs.Parts.{normalQueued, catchQueued, conditionShaped, here-shaped}
-use Rattle.rules.specs.Operate.{Operated, Lawful, decides-lawful, LawfulRule, operate-can, operate-lawful}
+use Rattle.rules.specs.Operate.{Operated, Lawful, decides-lawful, Effect, LawfulRule, operate-can, operate-lawful}
 
 -- ------------------------------------------------------------------------
 -- the batches struck off
@@ -83,10 +83,12 @@ ackAt-lawful c t i v =
 -- ------------------------------------------------------------------------
 -- the rule
 
-pub ackRule-lawful : (ns : List ℕ) (w : ℕ) (t : Term) (i : ℕ) (p : PlayerView) →
-    LawfulRule ns w p (ackRule ns w t i p) (λ j v. AckTaken t i v) (λ j v d. acknowledged i v)
+abbrev pub ackEffect : Term → ℕ → Effect
+ackEffect t i = record { tells = λ j v. AckTaken t i v; makes = λ j v d. acknowledged i v }
+
+pub ackRule-lawful : (ns : List ℕ) (w : ℕ) (t : Term) (i : ℕ) (p : PlayerView) → LawfulRule ns w p (ackRule ns w t i p) (ackEffect t i)
 unfolding ackRule
-ackRule-lawful ns w t i p = operate-lawful ns w _ p _ _ (ackAt-lawful _ t i _)
+ackRule-lawful ns w t i p = operate-lawful ns w _ p _ (ackAt-lawful _ t i _)
 
 pub ackRule-done : (ns : List ℕ) (w : ℕ) (t : Term) (i : ℕ) (p : PlayerView) → ackRule ns w t i p .answer ≡ 0 →
     Operated ns w p (ackRule ns w t i p) (AckTaken t i (windowAt w p)) (λ c. acknowledged i (windowAt w p))

@@ -10,7 +10,7 @@ use Rattle.rules.specs.Window.{isSuspended, dropped, dropAt}
 use Rattle.rules.specs.Rules.{dropRule}
 use Rattle.rules.specs.Checks.{Decides, done-decides, check-decides}
 use Rattle.rules.specs.Shaped.{WindowShaped}
-use Rattle.rules.specs.Operate.{Lawful, decides-lawful, LawfulRule, operate-lawful}
+use Rattle.rules.specs.Operate.{Lawful, decides-lawful, Effect, LawfulRule, operate-lawful}
 
 -- ------------------------------------------------------------------------
 -- at one window
@@ -51,6 +51,9 @@ dropAt-lawful c v =
 -- ------------------------------------------------------------------------
 -- the rule
 
-pub dropRule-lawful : (ns : List ℕ) (w : ℕ) (p : PlayerView) → LawfulRule ns w p (dropRule ns w p) (λ j v. DroppedOff v) (λ j v d. dropped v)
+abbrev pub dropEffect : Effect
+dropEffect = record { tells = λ j v. DroppedOff v; makes = λ j v d. dropped v }
+
+pub dropRule-lawful : (ns : List ℕ) (w : ℕ) (p : PlayerView) → LawfulRule ns w p (dropRule ns w p) dropEffect
 unfolding dropRule
-dropRule-lawful ns w p = operate-lawful ns w _ p _ _ (dropAt-lawful _ _)
+dropRule-lawful ns w p = operate-lawful ns w _ p _ (dropAt-lawful _ _)

@@ -16,7 +16,7 @@ use Rattle.rules.specs.Rules.{windowAt, joinRule}
 use Rattle.rules.specs.Checks.{Decides, done-decides, check-decides}
 use Rattle.rules.specs.Shaped.{WindowShaped}
 use Rattle.rules.specs.Parts.{normalQueued, catchQueued, ConditionShaped, normal-shaped, fetching-shaped, here-shaped}
-use Rattle.rules.specs.Operate.{Operated, Lawful, decides-lawful, LawfulRule, operate-lawful}
+use Rattle.rules.specs.Operate.{Operated, Lawful, decides-lawful, Effect, LawfulRule, operate-lawful}
 
 -- ------------------------------------------------------------------------
 -- at one window
@@ -73,10 +73,12 @@ joinAt-lawful c j w r v =
 -- ------------------------------------------------------------------------
 -- the rule
 
-pub joinRule-lawful : (ns : List ℕ) (w r : ℕ) (p : PlayerView) →
-    LawfulRule ns w p (joinRule ns w r p) (λ j v. JoinedOn j w (p .current) r v) (λ j v d. joined (p .current) r v)
+abbrev pub joinEffect : ℕ → ℕ → ℕ → Effect
+joinEffect w current r = record { tells = λ j v. JoinedOn j w current r v; makes = λ j v d. joined current r v }
+
+pub joinRule-lawful : (ns : List ℕ) (w r : ℕ) (p : PlayerView) → LawfulRule ns w p (joinRule ns w r p) (joinEffect w (p .current) r)
 unfolding joinRule
-joinRule-lawful ns w r p = operate-lawful ns w _ p _ _ (joinAt-lawful _ (entriesOf ns) w r _)
+joinRule-lawful ns w r p = operate-lawful ns w _ p _ (joinAt-lawful _ (entriesOf ns) w r _)
 
 pub joinRule-done : (ns : List ℕ) (w r : ℕ) (p : PlayerView) → joinRule ns w r p .answer ≡ 0 →
     Operated ns w p (joinRule ns w r p) (JoinedOn (entriesOf ns) w (p .current) r (windowAt w p)) (λ c. joined (p .current) r (windowAt w p))

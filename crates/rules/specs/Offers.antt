@@ -4,23 +4,23 @@
 pub use Rattle.rules.specs.Checks.{check-yes, check-no, check-passed}
 -- The clauses of the shape as facts.
 pub use Rattle.rules.specs.Shaped.{windowShaped, Shaped, shaped}
--- An operation on a window. `LawfulRule` says of an outcome all that demand 3 needs: a refusal changes nothing; an answer 0 changes that
--- window alone, and tells what; a state in shape stays in shape.
-pub use Rattle.rules.specs.Operate.{Operated, operate-cases, operate-limit, LawfulRule}
+-- An operation on a window. `LawfulRule` says of its outcome all that demand 3 needs: a refusal changes nothing; an answer 0 has the
+-- operation's effect on that window and no other; a state in shape stays in shape.
+pub use Rattle.rules.specs.Operate.{Operated, operate-cases, operate-limit, Effect, LawfulRule}
 -- Main: what it makes of a window, case by case; each window by its own rule; when it is answered 0; the shape.
 pub use Rattle.rules.specs.Main.{enqueue-suspended, enqueue-room, mainAt-other, mainAt-suspended, mainAt-room, mainAt-normal, mainAt-fetching, mainAt-completed, mainAt-either, mainNext-at, MainDone, mainRule-cases, mainRule-done, mainRule-refuses, mainRule-count, mainRule-can, main-shaped}
 -- Catch: what it makes of a window; what its answer 0 tells; when it is answered 0.
-pub use Rattle.rules.specs.Catch.{oneIf, fetched-more, fetched-last, Caught, catchRule-lawful, catchRule-can}
+pub use Rattle.rules.specs.Catch.{oneIf, fetched-more, fetched-last, Caught, catchEffect, catchRule-lawful, catchRule-can}
 -- Send: its batch in closed form; what the batch leaves of the window; what its answer 0 tells; when it is answered 0.
-pub use Rattle.rules.specs.Send.{isEmpty-some, isEmpty-drop, requeue-same, batchOf-normal, batchOf-fetching, batchOf-more, batchOf-all, batchOf-drained, batchOf-suspended, batchOf-cases, ConditionAfter, same, emptied, batchOf-condition, batchOf-kept, launched-is, SentOut, sendAt-refuses, sendAt-done, sendAt-can, sendRule-lawful, sendRule-done, sendRule-can}
+pub use Rattle.rules.specs.Send.{isEmpty-some, isEmpty-drop, requeue-same, batchOf-normal, batchOf-fetching, batchOf-more, batchOf-all, batchOf-drained, batchOf-suspended, batchOf-cases, ConditionAfter, same, emptied, batchOf-condition, batchOf-kept, launched-is, SentOut, sendAt-refuses, sendAt-done, sendAt-can, sendEffect, sendRule-lawful, sendRule-done, sendRule-can}
 -- Written: what its answer 0 tells; when it is answered 0.
-pub use Rattle.rules.specs.Written.{WrittenOff, writtenRule-lawful, writtenRule-can}
+pub use Rattle.rules.specs.Written.{WrittenOff, writtenEffect, writtenRule-lawful, writtenRule-can}
 -- Ack: the batches that it strikes off; what its answer 0 tells; when it is answered 0.
-pub use Rattle.rules.specs.Ack.{struck-front, AckTaken, ackRule-lawful, ackRule-done, ackRule-can}
+pub use Rattle.rules.specs.Ack.{struck-front, AckTaken, ackEffect, ackRule-lawful, ackRule-done, ackRule-can}
 -- Drop: what its answer 0 tells.
-pub use Rattle.rules.specs.Drop.{DroppedOff, dropRule-lawful}
+pub use Rattle.rules.specs.Drop.{DroppedOff, dropEffect, dropRule-lawful}
 -- Join: what its answer 0 tells.
-pub use Rattle.rules.specs.Join.{JoinedOn, joinRule-lawful, joinRule-done}
+pub use Rattle.rules.specs.Join.{JoinedOn, joinEffect, joinRule-lawful, joinRule-done}
 -- Start: the least report; the player that it makes; what its answer 0 tells; the shape.
 pub use Rattle.rules.specs.Start.{least-le, least-some, startNext, startNext-at, StartDone, startRule-done, startRule-refuses, start-shaped}
 -- An append: the shape.

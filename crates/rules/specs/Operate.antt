@@ -90,19 +90,22 @@ pub decides-lawful : {tests : List Bool} {c : ℕ} {v v′ : WindowView} {turn :
 decides-lawful d tell stays =
     record { refuses = d .refuses; does = λ e. tell (d .passed e) (decides-next d e); next = decides-next d; shaped = stays }
 
--- the law of an operation on window w, with outcome o: a refusal changes nothing; an answer 0 tells T of the journal and the window; then
--- the window becomes what `after` says, and nothing else changes; a state in shape stays in shape
-pub record LawfulRule (ns : List ℕ) (w : ℕ) (p : PlayerView) (o : Outcome) (T : List Entry → WindowView → Type 0)
-    (after : (j : List Entry) (v : WindowView) → T j v → WindowView) : Type 0 where
+-- what an operation on a window does where it is answered 0: what that tells of the journal and the window, and what the window becomes
+pub record Effect : Type 1 where
+  pub tells : List Entry → WindowView → Type 0
+  pub makes : (j : List Entry) (v : WindowView) → tells j v → WindowView
+
+-- the law of an operation on window w, with outcome o: a refusal changes nothing; an answer 0 has its effect on that window and no other;
+-- a state in shape stays in shape
+pub record LawfulRule (ns : List ℕ) (w : ℕ) (p : PlayerView) (o : Outcome) (x : Effect) : Type 0 where
   pub refuses : (o .answer ≡ 0 → ⊥) → o .next ≡ p
-  pub does : o .answer ≡ 0 → Operated ns w p o (T (entriesOf ns) (windowAt w p)) (after (entriesOf ns) (windowAt w p))
+  pub does : o .answer ≡ 0 → Operated ns w p o (x .tells (entriesOf ns) (windowAt w p)) (x .makes (entriesOf ns) (windowAt w p))
   pub shaped : shape ns p ≡ true → shape ns (o .next) ≡ true
 
-pub operate-lawful : (ns : List ℕ) (w : ℕ) (f : WindowView → Turn) (p : PlayerView) (T : List Entry → WindowView → Type 0)
-    (after : (j : List Entry) (v : WindowView) → T j v → WindowView) →
-    Lawful (p .current) (windowAt w p) (f (windowAt w p)) (T (entriesOf ns) (windowAt w p)) (after (entriesOf ns) (windowAt w p)) →
-    LawfulRule ns w p (operate ns w f p) T after
-operate-lawful ns w f p T after law =
+pub operate-lawful : (ns : List ℕ) (w : ℕ) (f : WindowView → Turn) (p : PlayerView) (x : Effect) →
+    Lawful (p .current) (windowAt w p) (f (windowAt w p)) (x .tells (entriesOf ns) (windowAt w p)) (x .makes (entriesOf ns) (windowAt w p)) →
+    LawfulRule ns w p (operate ns w f p) x
+operate-lawful ns w f p x law =
     record {
       refuses =
           operate-cases ns w f p (λ o. (o .answer ≡ 0 → ⊥) → o .next ≡ p) (λ n. refl) (λ n. refl)
@@ -110,7 +113,7 @@ operate-lawful ns w f p T after law =
           ∙ ap (λ vs. record { limit = p .limit; current = p .current; windows = vs }) (set-getD (p .windows) w noWindow));
       does =
           operate-cases ns w f p
-          (λ o. o .answer ≡ 0 → Operated ns w p o (T (entriesOf ns) (windowAt w p)) (after (entriesOf ns) (windowAt w p)))
+          (λ o. o .answer ≡ 0 → Operated ns w p o (x .tells (entriesOf ns) (windowAt w p)) (x .makes (entriesOf ns) (windowAt w p)))
           (λ e. absurd (omega arith))
           (λ e. absurd (omega arith))
           (λ s h e. record { shaped = s; within = h; turn = law .does e; next = ap (λ v. withWindow w v p) (law .next e) });

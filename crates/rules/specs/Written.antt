@@ -12,7 +12,7 @@ use Rattle.rules.specs.Window.{isSuspended, otherTerm, freed, writtenAt}
 use Rattle.rules.specs.Rules.{windowAt, writtenRule}
 use Rattle.rules.specs.Checks.{Decides, done-decides, check-decides, otherTerm-same, otherTerm-own}
 use Rattle.rules.specs.Parts.{normalQueued, catchQueued, lined, conditionShaped, here-shaped}
-use Rattle.rules.specs.Operate.{Lawful, decides-lawful, LawfulRule, operate-can, operate-lawful}
+use Rattle.rules.specs.Operate.{Lawful, decides-lawful, Effect, LawfulRule, operate-can, operate-lawful}
 
 -- ------------------------------------------------------------------------
 -- at one window
@@ -38,10 +38,12 @@ writtenAt-lawful c t v =
 -- ------------------------------------------------------------------------
 -- the rule
 
-pub writtenRule-lawful : (ns : List ℕ) (w : ℕ) (t : Term) (p : PlayerView) →
-    LawfulRule ns w p (writtenRule ns w t p) (λ j v. WrittenOff t v) (λ j v d. freed v)
+abbrev pub writtenEffect : Term → Effect
+writtenEffect t = record { tells = λ j v. WrittenOff t v; makes = λ j v d. freed v }
+
+pub writtenRule-lawful : (ns : List ℕ) (w : ℕ) (t : Term) (p : PlayerView) → LawfulRule ns w p (writtenRule ns w t p) (writtenEffect t)
 unfolding writtenRule
-writtenRule-lawful ns w t p = operate-lawful ns w _ p _ _ (writtenAt-lawful _ t _)
+writtenRule-lawful ns w t p = operate-lawful ns w _ p _ (writtenAt-lawful _ t _)
 
 pub writtenRule-can : (ns : List ℕ) (w : ℕ) (p : PlayerView) → shape ns p ≡ true → w < length (p .windows) →
     isSuspended (windowAt w p .condition) ≡ false → windowAt w p .busy ≡ true → writtenRule ns w (windowAt w p .term) p .answer ≡ 0
