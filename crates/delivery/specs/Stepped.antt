@@ -38,12 +38,16 @@ called-then o wd = go (eqb (o .answer) 0)
     go true = refl
     go false = refl
 
--- a call that is refused
-pub call-refused : (wd : World) (s : Step) (o : Outcome) (f : World → World) → step s wd ≡ calledThen o f wd → begins s (answered (o .answer)) ≡ false →
-    (o .answer ≡ 0 → ⊥) → o .next ≡ playerIn wd → Facts s wd
-call-refused wd s o f calls quiet n same =
-    working (ap (λ r. begins s (r .reply)) calls ∙ quiet)
-    (stays (ap (λ r. r .world) calls ∙ calledThen-refused o f wd n ∙ withPlayer-same wd (o .next) same))
+-- a call is refused and changes nothing, or does what is known of an answer 0
+pub call-either : (wd : World) (s : Step) (o : Outcome) (f : World → World) → step s wd ≡ calledThen o f wd →
+    ((o .answer ≡ 0 → ⊥) → begins s (answered (o .answer)) ≡ false) → ((o .answer ≡ 0 → ⊥) → o .next ≡ playerIn wd) →
+    (o .answer ≡ 0 → Facts s wd) → Facts s wd
+call-either wd s o f calls quiet same done =
+    ⊎-elim done
+    (λ (n : o .answer ≡ 0 → ⊥).
+    working (ap (λ r. begins s (r .reply)) calls ∙ quiet n)
+    (stays (ap (λ r. r .world) calls ∙ calledThen-refused o f wd n ∙ withPlayer-same wd (o .next) (same n))))
+    (eq-or-ne (o .answer) 0)
 
 -- a step that does the work of a window is neither a fault nor an append
 pub works-facts : (wd : World) (w : ℕ) (s : Step) → begins s (step s wd .reply) ≡ false → WorksAt s wd w → Facts s wd
@@ -94,7 +98,8 @@ module _ {s : Step} {wd : World} {w : ℕ} {o : Outcome} {x : Effect} {g : Side 
       let p : Side = sideAt w wd in
       let d = k .lawful .does e in
       let h : w < length (wd .sides) = within-in wd w (d .within) in
-      let (t, same) = subst₂ (λ j v. (t : x .tells j v) × (x .makes _ _ (d .turn) ≡ x .makes j v t)) (entries-in wd) (window-in w wd) (d .turn, refl) in
+      let (t, same) = subst₂ (λ j v. (t : x .tells j v) × (x .makes _ _ (d .turn) ≡ x .makes j v t)) (entries-in wd) (window-in w wd)
+      (d .turn, refl) in
       let v′ : WindowView = x .makes (wd .journal) (p .view) t in
       let next : o .next ≡ withWindow w v′ (playerIn wd) = d .next ∙ ap (λ v. withWindow w v (playerIn wd)) same in
       let is : step s wd .world ≡ withSide w (g (withView v′ p)) wd
@@ -119,10 +124,8 @@ module _ {s : Step} {wd : World} {w : ℕ} {o : Outcome} {x : Effect} {g : Side 
       let d = call-done shaped e in
       record { within = d .within; after = _; work = work (d .turn); world = d .world; shaped = d .shaped }
 
-  -- it is refused, or what is known where it is answered 0
   pub call-facts : ((o .answer ≡ 0 → ⊥) → begins s (answered (o .answer)) ≡ false) → (o .answer ≡ 0 → Facts s wd) → Facts s wd
-  call-facts quiet done =
-      ⊎-elim done (λ (n : o .answer ≡ 0 → ⊥). call-refused wd s o (k .change) (k .calls) (quiet n) n (k .lawful .refuses n)) (eq-or-ne (o .answer) 0)
+  call-facts quiet = call-either wd s o (k .change) (k .calls) quiet (k .lawful .refuses)
 
 -- ------------------------------------------------------------------------
 -- Catch, Written, a late Ack, Drop
@@ -164,8 +167,8 @@ module _ (wd : World) (shaped : shape (numbersIn wd) (playerIn wd) ≡ true) whe
       let o : Outcome = ackRule (numbersIn wd) w t i (playerIn wd) in
       ⊎-elim
       (λ (late : (leb (length (wd .sides)) w || ltb (t .0) (sideAt w wd .view .term .0)) ≡ true).
-      let n : o .answer ≡ 0 → ⊥ = late-refused w t i late in
-      call-refused wd (late-ack w t i) o (λ x. x) (rw late (called-then o wd)) refl n (ackRule-lawful (numbersIn wd) w t i (playerIn wd) .refuses n))
+      call-either wd (late-ack w t i) o (λ x. x) (rw late (called-then o wd)) (λ n. refl)
+      (ackRule-lawful (numbersIn wd) w t i (playerIn wd) .refuses) (λ e. absurd (late-refused w t i late e)))
       (λ (young : (leb (length (wd .sides)) w || ltb (t .0) (sideAt w wd .view .term .0)) ≡ false). working refl (stays (rw young)))
       (true-or-false (leb (length (wd .sides)) w || ltb (t .0) (sideAt w wd .view .term .0)))
 

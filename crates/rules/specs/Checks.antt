@@ -59,7 +59,8 @@ decides-next d e = ap (λ t. t .next) (d .can (d .passed e))
 pub done-decides : (v v′ : WindowView) → Decides [] v v′ (done v′)
 done-decides v v′ = record { refuses = λ n. absurd (n refl); passed = λ e. tt; can = λ f. refl }
 
-pub check-decides : {b : Bool} {bs : List Bool} {v v′ : WindowView} {t : Turn} (n : ℕ) → Decides bs v v′ t → Decides (b ∷ bs) v v′ (check b (suc n) v t)
+pub check-decides : {b : Bool} {bs : List Bool} {v v′ : WindowView} {t : Turn} (n : ℕ) → Decides bs v v′ t →
+    Decides (b ∷ bs) v v′ (check b (suc n) v t)
 unfolding check
 check-decides {b} {bs} {v} {v′} {t} n d = go b
   where

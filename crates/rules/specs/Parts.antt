@@ -28,7 +28,10 @@ queued-none = record { fits = omega arith; within = refl }
 pub queued-push : {l i : ℕ} {q : List ℕ} → length q < 128 → 1 ≤ i → i ≤ l → Queued l q → Queued l (q ++ (i ∷ []))
 unfolding all
 queued-push {l} {i} {q} h low high s =
-    record { fits = simp length-append (omega arith); within = rw (all-append (queuedIn l) q (i ∷ []), s .within, le-leb 1 i low, le-leb i l high) }
+    record {
+      fits = simp length-append (omega arith);
+      within = rw (all-append (queuedIn l) q (i ∷ []), s .within, le-leb 1 i low, le-leb i l high);
+    }
 
 pub queued-drop : {l : ℕ} {q : List ℕ} (k : ℕ) → Queued l q → Queued l (drop k q)
 queued-drop {l} {q} k s = record { fits = simp length-drop (omega arith); within = all-drop (queuedIn l) k q (s .within) }
@@ -61,7 +64,8 @@ pub record ConditionShaped (l c : ℕ) (s : Condition) (q : List ℕ) : Type 0 w
   pub catchUp : catchUpFits s q ≡ true
   pub here : isSuspended s ≡ false
 
-pub conditionShaped : {l c : ℕ} {v : WindowView} → WindowShaped l c v → isSuspended (v .condition) ≡ false → ConditionShaped l c (v .condition) (v .catchQueue)
+pub conditionShaped : {l c : ℕ} {v : WindowView} → WindowShaped l c v → isSuspended (v .condition) ≡ false →
+    ConditionShaped l c (v .condition) (v .catchQueue)
 conditionShaped s h = record { held = s .conditionIn; next = s .next; end = s .end; catchUp = s .catchUp; here = h }
 
 module _ {l c : ℕ} {q : List ℕ} where
