@@ -1,26 +1,23 @@
--- Every step does one of those things: by the laws of the player's rules.
+-- A step that calls the player at one window is refused and changes nothing, or does what the law of its rule says: the steps that change
+-- no line.
 use Prim.Native.Nat.{ℕ, _<_}
 use mathlib.Core.Path.{_≡_, refl, sym, ap, subst⁻¹, subst₂, _∙_}
 use mathlib.Core.Logic.{⊎-elim}
-use mathlib.Core.List.{List}
-use mathlib.Core.Bool.{true, false, _||_}
+use mathlib.Core.Bool.{Bool, true, false, cond, _||_}
 use native.Mathlib.Omega.{arith}
 use borrow.Author.Tests.{eq-eqb, ne-eqb, lt-leb, ltb-true}
 use lib.ListN.{length}
-use lib.Dec.{ltb, leb}
-use Rattle.journal.specs.declared.Entry.{Entry}
+use lib.Seq.{set-getD}
+use lib.Dec.{ltb, leb, eqb}
 use Rattle.lists.specs.Cases.{eq-or-ne, true-or-false}
-use Rattle.journal.specs.Entry.{entriesOf}
 use Rattle.rules.specs.declared.Term.{Term}
 use Rattle.rules.specs.View.{WindowView, PlayerView}
 use Rattle.rules.specs.Shape.{shape}
-use Rattle.rules.specs.Window.{wanted, fetched, freed, dropped}
-use Rattle.rules.specs.Rules.{Outcome, windowAt, withWindow, catchRule, writtenRule, ackRule, dropRule}
-use Rattle.rules.specs.Offers.{Caught, WrittenOff, Operated, catchRule-refuses, catchRule-done, writtenRule-refuses, writtenRule-done, ackRule-refuses, ackRule-done, dropRule-refuses, dropRule-done, catch-shaped, written-shaped, drop-shaped}
-use Rattle.delivery.specs.World.{Side, World, sideAt, numbersIn, playerIn, withView, withPlayer, withSide, Step, catch, written, late-ack, drop, answered, called, calledThen, step}
-use Rattle.delivery.specs.World as W
+use Rattle.rules.specs.Rules.{Outcome, withWindow, catchRule, writtenRule, ackRule, dropRule}
+use Rattle.rules.specs.Offers.{Effect, LawfulRule, catchEffect, catchRule-lawful, writtenEffect, writtenRule-lawful, ackRule-lawful, dropEffect, dropRule-lawful}
+use Rattle.delivery.specs.World.{Side, World, noSide, sideAt, numbersIn, playerIn, withView, withPlayer, withSide, Step, catch, written, late-ack, drop, answered, called, calledThen, step}
 use Rattle.delivery.specs.Statement.{begins}
-use Rattle.delivery.specs.Worlds.{entries-in, window-in, windows-in, withPlayer-same, withPlayer-window, withSide-player}
+use Rattle.delivery.specs.Worlds.{entries-in, window-in, windows-in, withPlayer-same, withPlayer-window, withSide-here, withSide-twice, withSide-player}
 use Rattle.delivery.specs.Effects.{Worked, stays, works, WorksAt, Facts, working, dropping}
 use Rattle.delivery.specs.Effects as E
 
@@ -33,91 +30,132 @@ calledThen-refused o f wd n = simp (ne-eqb (o .answer) 0 n)
 pub calledThen-done : (o : Outcome) (f : World → World) (wd : World) → o .answer ≡ 0 → calledThen o f wd .world ≡ f (withPlayer (o .next) wd)
 calledThen-done o f wd e = simp (eq-eqb (o .answer) 0 e)
 
-module _ (wd : World) (w : ℕ) where
-  pub within-in : w < length (playerIn wd .windows) → w < length (wd .sides)
-  within-in h = omega (arith, windows-in wd)
+-- a call alone is a call and no change after it
+pub called-then : (o : Outcome) (wd : World) → called o wd ≡ calledThen o (λ x. x) wd
+called-then o wd = go (eqb (o .answer) 0)
+  where
+    go : (b : Bool) → called o wd ≡ record { reply = answered (o .answer); world = cond b (withPlayer (o .next) wd) (withPlayer (o .next) wd) }
+    go true = refl
+    go false = refl
 
-  -- what a law says of the rules' journal and window, said of the world's
-  pub lift : (F : List Entry → WindowView → WindowView → Type 0) (v′ : WindowView) → F (entriesOf (numbersIn wd)) (windowAt w (playerIn wd)) v′ →
-      F (wd .journal) (sideAt w wd .view) v′
-  lift F v′ f = subst₂ (λ j v. F j v v′) (entries-in wd) (window-in w wd) f
+-- a call is refused and changes nothing, or does what is known of an answer 0
+pub call-either : (wd : World) (s : Step) (o : Outcome) (f : World → World) → step s wd ≡ calledThen o f wd →
+    ((o .answer ≡ 0 → ⊥) → begins s (answered (o .answer)) ≡ false) → ((o .answer ≡ 0 → ⊥) → o .next ≡ playerIn wd) →
+    (o .answer ≡ 0 → Facts s wd) → Facts s wd
+call-either wd s o f calls quiet same done =
+    ⊎-elim done
+    (λ (n : o .answer ≡ 0 → ⊥).
+    working (ap (λ r. begins s (r .reply)) calls ∙ quiet n)
+    (stays (ap (λ r. r .world) calls ∙ calledThen-refused o f wd n ∙ withPlayer-same wd (o .next) (same n))))
+    (eq-or-ne (o .answer) 0)
 
-  -- the player is in shape after an operation at a window, whatever else changes at its side
-  pub shape-after : (q : PlayerView) (v : WindowView) (p′ : Side) (wd′ : World) → q ≡ withWindow w v (playerIn wd) → shape (numbersIn wd) q ≡ true →
-      wd′ ≡ withSide w p′ wd → p′ .view ≡ v → shape (numbersIn wd′) (playerIn wd′) ≡ true
-  shape-after q v p′ wd′ e s is same =
-      subst⁻¹ (λ x. shape (numbersIn x) (playerIn x) ≡ true) is
-      (ap (shape (numbersIn wd)) (withSide-player w p′ wd ∙ ap (λ v. withWindow w v (playerIn wd)) same ∙ sym e) ∙ s)
-
-  -- a call at window w that does a piece of the window's work and nothing else
-  call-works : (s : Step) (o : Outcome) (T : Type 0) (after : T → WindowView) → step s wd ≡ called o wd →
-      shape (numbersIn wd) (o .next) ≡ true → Operated (numbersIn wd) w (playerIn wd) o T after →
-      ((t : T) → Worked (wd .journal) (wd .limit) w (sideAt w wd) (withView (after t) (sideAt w wd))) → WorksAt s wd w
-  call-works s o T after is shaped d work =
-      let e : step s wd .world ≡ withSide w (withView (after (d .turn)) (sideAt w wd)) wd
-      = ap (λ r. r .world) is ∙ withPlayer-window wd (o .next) w (after (d .turn)) (d .next) in
-      record {
-        within = within-in (d .within);
-        after = withView (after (d .turn)) (sideAt w wd);
-        work = work (d .turn);
-        world = e;
-        shaped = shape-after (o .next) (after (d .turn)) _ _ (d .next) shaped e refl;
-      }
-
--- and so it is neither a fault nor an append
+-- a step that does the work of a window is neither a fault nor an append
 pub works-facts : (wd : World) (w : ℕ) (s : Step) → begins s (step s wd .reply) ≡ false → WorksAt s wd w → Facts s wd
 works-facts wd w s quiet k = working quiet (works w (k .within) (k .after) (k .work) (k .world) (k .shaped))
 
--- a call that is refused
-pub call-refused : (wd : World) (s : Step) (o : Outcome) → step s wd ≡ called o wd → begins s (answered (o .answer)) ≡ false → o .next ≡ playerIn wd → Facts s wd
-call-refused wd s o is quiet same =
-    working (ap (λ r. begins s (r .reply)) is ∙ quiet) (stays (ap (λ r. r .world) is ∙ withPlayer-same wd (o .next) same))
+-- ------------------------------------------------------------------------
+-- one window
+
+pub within-in : (wd : World) (w : ℕ) → w < length (playerIn wd .windows) → w < length (wd .sides)
+within-in wd w h = omega (arith, windows-in wd)
+
+withSide-same : (w : ℕ) (wd : World) → withSide w (sideAt w wd) wd ≡ wd
+withSide-same w wd =
+    ap (λ ps. record { journal = wd .journal; limit = wd .limit; current = wd .current; sides = ps }) (set-getD (wd .sides) w noSide)
+
+-- the player is in shape after an operation at a window, whatever else changes at its side
+pub shape-after : (wd : World) (w : ℕ) (q : PlayerView) (v : WindowView) (p′ : Side) (wd′ : World) → q ≡ withWindow w v (playerIn wd) →
+    shape (numbersIn wd) q ≡ true → wd′ ≡ withSide w p′ wd → p′ .view ≡ v → shape (numbersIn wd′) (playerIn wd′) ≡ true
+shape-after wd w q v p′ wd′ e s is same =
+    subst⁻¹ (λ x. shape (numbersIn x) (playerIn x) ≡ true) is
+    (ap (shape (numbersIn wd)) (withSide-player w p′ wd ∙ ap (λ v. withWindow w v (playerIn wd)) same ∙ sym e) ∙ s)
+
+-- a step that calls an operation on window w, with outcome o and effect x, and where it is answered 0 makes g of that window's side
+-- after it
+pub record CallAt (s : Step) (wd : World) (w : ℕ) (o : Outcome) (x : Effect) (g : Side → Side) : Type 0 where
+  pub lawful : LawfulRule (numbersIn wd) w (playerIn wd) o x
+  pub change : World → World
+  pub calls : step s wd ≡ calledThen o change wd
+  pub here : (wd′ : World) → change wd′ ≡ withSide w (g (sideAt w wd′)) wd′
+  pub views : (p : Side) → g p .view ≡ p .view
+
+-- such a step answered 0, said of the world's journal and window
+pub record DoneAt (s : Step) (wd : World) (w : ℕ) (x : Effect) (g : Side → Side) : Type 0 where
+  pub within : w < length (wd .sides)
+  pub turn : x .tells (wd .journal) (sideAt w wd .view)
+  pub world : step s wd .world ≡ withSide w (g (withView (x .makes (wd .journal) (sideAt w wd .view) turn) (sideAt w wd))) wd
+  pub shaped : shape (numbersIn (step s wd .world)) (playerIn (step s wd .world)) ≡ true
+
+-- a call alone
+call-alone : {s : Step} {wd : World} {w : ℕ} {o : Outcome} {x : Effect} → LawfulRule (numbersIn wd) w (playerIn wd) o x →
+    step s wd ≡ called o wd → CallAt s wd w o x (λ p. p)
+call-alone {wd = wd} {w = w} {o = o} law is =
+    record { lawful = law; change = λ wd′. wd′; calls = is ∙ called-then o wd; here = λ wd′. sym (withSide-same w wd′); views = λ p. refl }
+
+module _ {s : Step} {wd : World} {w : ℕ} {o : Outcome} {x : Effect} {g : Side → Side} (k : CallAt s wd w o x g) where
+  pub call-done : shape (numbersIn wd) (playerIn wd) ≡ true → o .answer ≡ 0 → DoneAt s wd w x g
+  call-done shaped e =
+      let p : Side = sideAt w wd in
+      let d = k .lawful .does e in
+      let h : w < length (wd .sides) = within-in wd w (d .within) in
+      let (t, same) = subst₂ (λ j v. (t : x .tells j v) × (x .makes _ _ (d .turn) ≡ x .makes j v t)) (entries-in wd) (window-in w wd)
+      (d .turn, refl) in
+      let v′ : WindowView = x .makes (wd .journal) (p .view) t in
+      let next : o .next ≡ withWindow w v′ (playerIn wd) = d .next ∙ ap (λ v. withWindow w v (playerIn wd)) same in
+      let is : step s wd .world ≡ withSide w (g (withView v′ p)) wd
+      = ap (λ r. r .world) (k .calls)
+      ∙ calledThen-done o (k .change) wd e
+      ∙ ap (k .change) (withPlayer-window wd (o .next) w v′ next)
+      ∙ k .here (withSide w (withView v′ p) wd)
+      ∙ ap (λ q. withSide w (g q) (withSide w (withView v′ p) wd)) (withSide-here w (withView v′ p) wd h)
+      ∙ withSide-twice w (withView v′ p) (g (withView v′ p)) wd in
+      record {
+        within = h;
+        turn = t;
+        world = is;
+        shaped = shape-after wd w (o .next) v′ _ _ next (k .lawful .shaped shaped) is (k .views (withView v′ p));
+      }
+
+  -- it does a piece of the window's work
+  pub call-works : shape (numbersIn wd) (playerIn wd) ≡ true → o .answer ≡ 0 →
+      ((t : x .tells (wd .journal) (sideAt w wd .view)) →
+      Worked (wd .journal) (wd .limit) w (sideAt w wd) (g (withView (x .makes (wd .journal) (sideAt w wd .view) t) (sideAt w wd)))) → WorksAt s wd w
+  call-works shaped e work =
+      let d = call-done shaped e in
+      record { within = d .within; after = _; work = work (d .turn); world = d .world; shaped = d .shaped }
+
+  pub call-facts : ((o .answer ≡ 0 → ⊥) → begins s (answered (o .answer)) ≡ false) → (o .answer ≡ 0 → Facts s wd) → Facts s wd
+  call-facts quiet = call-either wd s o (k .change) (k .calls) quiet (k .lawful .refuses)
 
 -- ------------------------------------------------------------------------
--- Catch, Written, a late Ack
+-- Catch, Written, a late Ack, Drop
 
 module _ (wd : World) (shaped : shape (numbersIn wd) (playerIn wd) ≡ true) where
-  pub catch-works : (w : ℕ) (t : Term) (i : ℕ) → catchRule (numbersIn wd) w t i (playerIn wd) .answer ≡ 0 → WorksAt (catch w t i) wd w
+  catch-call : (w : ℕ) (t : Term) (i : ℕ) → CallAt (catch w t i) wd w (catchRule (numbersIn wd) w t i (playerIn wd)) (catchEffect w t i) (λ p. p)
   unfolding step
-  catch-works w t i e =
-      call-works wd w (catch w t i) (catchRule (numbersIn wd) w t i (playerIn wd)) _ _ refl (catch-shaped (numbersIn wd) (playerIn wd) shaped w t i)
-      (catchRule-done (numbersIn wd) w t i (playerIn wd) e)
-      (λ c.
-      let g = lift wd w (λ j v v′. (c : Caught j w t i v) × (v′ ≡ fetched (wanted j w i v) i (c .upto) v)) _ (c, refl) in
-      E.caught t i (g .0) (ap (λ v. withView v (sideAt w wd)) (g .1)))
+  catch-call w t i = call-alone (catchRule-lawful (numbersIn wd) w t i (playerIn wd)) refl
+
+  pub catch-works : (w : ℕ) (t : Term) (i : ℕ) → catchRule (numbersIn wd) w t i (playerIn wd) .answer ≡ 0 → WorksAt (catch w t i) wd w
+  catch-works w t i e = call-works (catch-call w t i) shaped e (λ c. E.caught t i c refl)
 
   pub facts-catch : (w : ℕ) (t : Term) (i : ℕ) → Facts (catch w t i) wd
+  facts-catch w t i = call-facts (catch-call w t i) (λ n. refl) (λ e. works-facts wd w (catch w t i) refl (catch-works w t i e))
+
+  written-call : (w : ℕ) (t : Term) → CallAt (written w t) wd w (writtenRule (numbersIn wd) w t (playerIn wd)) (writtenEffect t) (λ p. p)
   unfolding step
-  facts-catch w t i =
-      ⊎-elim
-      (λ (e : catchRule (numbersIn wd) w t i (playerIn wd) .answer ≡ 0). works-facts wd w (catch w t i) refl (catch-works w t i e))
-      (λ (n : catchRule (numbersIn wd) w t i (playerIn wd) .answer ≡ 0 → ⊥).
-      call-refused wd (catch w t i) _ refl refl (catchRule-refuses (numbersIn wd) w t i (playerIn wd) n))
-      (eq-or-ne (catchRule (numbersIn wd) w t i (playerIn wd) .answer) 0)
+  written-call w t = call-alone (writtenRule-lawful (numbersIn wd) w t (playerIn wd)) refl
 
   pub written-works : (w : ℕ) (t : Term) → writtenRule (numbersIn wd) w t (playerIn wd) .answer ≡ 0 → WorksAt (written w t) wd w
-  unfolding step
-  written-works w t e =
-      call-works wd w (written w t) (writtenRule (numbersIn wd) w t (playerIn wd)) _ _ refl (written-shaped (numbersIn wd) (playerIn wd) shaped w t)
-      (writtenRule-done (numbersIn wd) w t (playerIn wd) e)
-      (λ c.
-      let g = lift wd w (λ j v v′. (c : WrittenOff t v) × (v′ ≡ freed v)) _ (c, refl) in
-      E.written t (g .0) (ap (λ v. withView v (sideAt w wd)) (g .1)))
+  written-works w t e = call-works (written-call w t) shaped e (λ c. E.written t c refl)
 
   pub facts-written : (w : ℕ) (t : Term) → Facts (written w t) wd
-  unfolding step
-  facts-written w t =
-      ⊎-elim
-      (λ (e : writtenRule (numbersIn wd) w t (playerIn wd) .answer ≡ 0). works-facts wd w (written w t) refl (written-works w t e))
-      (λ (n : writtenRule (numbersIn wd) w t (playerIn wd) .answer ≡ 0 → ⊥).
-      call-refused wd (written w t) _ refl refl (writtenRule-refuses (numbersIn wd) w t (playerIn wd) n))
-      (eq-or-ne (writtenRule (numbersIn wd) w t (playerIn wd) .answer) 0)
+  facts-written w t = call-facts (written-call w t) (λ n. refl) (λ e. works-facts wd w (written w t) refl (written-works w t e))
 
   -- an ack of an older term, or for a window that is not there, is never answered 0
   late-refused : (w : ℕ) (t : Term) (i : ℕ) → (leb (length (wd .sides)) w || ltb (t .0) (sideAt w wd .view .term .0)) ≡ true →
       ackRule (numbersIn wd) w t i (playerIn wd) .answer ≡ 0 → ⊥
   late-refused w t i late e =
-      let d = ackRule-done (numbersIn wd) w t i (playerIn wd) e in
+      let d = ackRule-lawful (numbersIn wd) w t i (playerIn wd) .does e in
       let h : w < length (wd .sides) = within-in wd w (d .within) in
       let same : t .0 ≡ sideAt w wd .view .term .0 = d .turn .term ∙ ap (λ v. v .term .0) (window-in w wd) in
       let older : ltb (t .0) (sideAt w wd .view .term .0) ≡ true = rw (lt-leb (length (wd .sides)) w h) at late in
@@ -126,28 +164,20 @@ module _ (wd : World) (shaped : shape (numbersIn wd) (playerIn wd) ≡ true) whe
   pub facts-late : (w : ℕ) (t : Term) (i : ℕ) → Facts (late-ack w t i) wd
   unfolding step
   facts-late w t i =
+      let o : Outcome = ackRule (numbersIn wd) w t i (playerIn wd) in
       ⊎-elim
       (λ (late : (leb (length (wd .sides)) w || ltb (t .0) (sideAt w wd .view .term .0)) ≡ true).
-      call-refused wd (late-ack w t i) (ackRule (numbersIn wd) w t i (playerIn wd)) (rw late) refl
-      (ackRule-refuses (numbersIn wd) w t i (playerIn wd) (late-refused w t i late)))
+      call-either wd (late-ack w t i) o (λ x. x) (rw late (called-then o wd)) (λ n. refl)
+      (ackRule-lawful (numbersIn wd) w t i (playerIn wd) .refuses) (λ e. absurd (late-refused w t i late e)))
       (λ (young : (leb (length (wd .sides)) w || ltb (t .0) (sideAt w wd .view .term .0)) ≡ false). working refl (stays (rw young)))
       (true-or-false (leb (length (wd .sides)) w || ltb (t .0) (sideAt w wd .view .term .0)))
 
-  -- ------------------------------------------------------------------------
-  -- Drop
+  drop-call : (w : ℕ) → CallAt (drop w) wd w (dropRule (numbersIn wd) w (playerIn wd)) dropEffect (λ p. p)
+  unfolding step
+  drop-call w = call-alone (dropRule-lawful (numbersIn wd) w (playerIn wd)) refl
 
   pub facts-drop : (w : ℕ) → Facts (drop w) wd
   unfolding step
   facts-drop w =
-      ⊎-elim
-      (λ (e : dropRule (numbersIn wd) w (playerIn wd) .answer ≡ 0).
-      let d = dropRule-done (numbersIn wd) w (playerIn wd) e in
-      let is : withPlayer (dropRule (numbersIn wd) w (playerIn wd) .next) wd ≡ withSide w (withView (dropped (sideAt w wd .view)) (sideAt w wd)) wd
-      = withPlayer-window wd _ w (dropped (windowAt w (playerIn wd))) (d .next)
-      ∙ ap (λ v. withSide w (withView (dropped v) (sideAt w wd)) wd) (window-in w wd) in
-      dropping w refl (eq-eqb _ 0 e) (within-in wd w (d .within)) is
-      (shape-after wd w _ (dropped (windowAt w (playerIn wd))) _ _ (d .next) (drop-shaped (numbersIn wd) (playerIn wd) shaped w) is
-      (ap dropped (sym (window-in w wd)))))
-      (λ (n : dropRule (numbersIn wd) w (playerIn wd) .answer ≡ 0 → ⊥).
-      call-refused wd (drop w) _ refl (ne-eqb _ 0 n) (dropRule-refuses (numbersIn wd) w (playerIn wd) n))
-      (eq-or-ne (dropRule (numbersIn wd) w (playerIn wd) .answer) 0)
+      call-facts (drop-call w) (ne-eqb _ 0)
+      (λ e. let d = call-done (drop-call w) shaped e in dropping w refl (eq-eqb _ 0 e) (d .within) (d .world) (d .shaped))

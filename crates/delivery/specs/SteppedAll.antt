@@ -9,29 +9,33 @@ use native.Mathlib.Numerals.{add-one}
 use borrow.Author.Tests.{eq-eqb, ne-eqb, lt-ltb, le-ltb}
 use lib.ListN.{length, getD, length-map, List·getD-map}
 use Rattle.journal.specs.declared.Entry.{Entry}
-use Rattle.lists.specs.Cases.{eq-or-ne, le-or-lt}
+use Rattle.lists.specs.Cases.{le-or-lt}
 use Rattle.rules.specs.Shape.{shape}
 use Rattle.rules.specs.Window.{mainAt, started}
 use Rattle.rules.specs.Rules.{Outcome, windowAt, mainRule, least, startRule}
-use Rattle.rules.specs.Offers.{MainDone, mainRule-done, mainRule-refuses, mainNext-at, mainRule-count, StartDone, startRule-done, startRule-refuses, startNext-at, least-le, main-shaped, start-shaped}
+use Rattle.rules.specs.Offers.{mainRule-done, mainRule-refuses, mainNext-at, mainRule-count, startRule-done, startRule-refuses, startNext-at, least-le, main-shaped, start-shaped}
 use Rattle.delivery.specs.World.{Side, World, noSide, sideAt, numbersIn, playerIn, withView, withViews, withPlayer, Step, main, catch, written, send, ack, late-ack, drop, join, start, append, cleared, reportsIn, step}
 use Rattle.delivery.specs.World as W
 use Rattle.delivery.specs.Invariant.{lastOf}
-use Rattle.delivery.specs.Worlds.{entries-in, count-in, window-in, windows-in, withViews-length, withViews-at, withPlayer-same, withPlayer-player}
+use Rattle.delivery.specs.Worlds.{entries-in, count-in, window-in, windows-in, withViews-length, withViews-at, withPlayer-player}
 use Rattle.delivery.specs.Effects.{Mained, stays, mains, Restarted, Facts, working, starting, appending}
 use Rattle.delivery.specs.Effects as E
-use Rattle.delivery.specs.Stepped.{calledThen-refused, calledThen-done, call-refused, facts-catch, facts-written, facts-late, facts-drop}
+use Rattle.delivery.specs.Stepped.{calledThen-done, called-then, call-either, facts-catch, facts-written, facts-late, facts-drop}
 use Rattle.delivery.specs.SteppedLine.{facts-join, facts-send, facts-ack, facts-take}
+
+-- every line emptied
+abbrev clearedAll : World → World
+clearedAll wd = record { journal = wd .journal; limit = wd .limit; current = wd .current; sides = map cleared (wd .sides) }
 
 module _ (wd : World) (shaped : shape (numbersIn wd) (playerIn wd) ≡ true) where
   -- ------------------------------------------------------------------------
   -- Main
 
-  mained : (i : ℕ) → mainRule (numbersIn wd) i (playerIn wd) .answer ≡ 0 → Mained wd (withPlayer (mainRule (numbersIn wd) i (playerIn wd) .next) wd)
-  unfolding withPlayer
-  mained i e =
+  pub main-moves : (i : ℕ) → mainRule (numbersIn wd) i (playerIn wd) .answer ≡ 0 → Mained wd (step (main i) wd .world)
+  unfolding step withPlayer
+  main-moves i e =
       let o : Outcome = mainRule (numbersIn wd) i (playerIn wd) in
-      let d : MainDone (numbersIn wd) i (playerIn wd) o = mainRule-done (numbersIn wd) i (playerIn wd) e in
+      let d = mainRule-done (numbersIn wd) i (playerIn wd) e in
       let n : length (o .next .windows) ≡ length (wd .sides) = mainRule-count (numbersIn wd) i (playerIn wd) ∙ windows-in wd in
       let i≡ : i ≡ suc (wd .current) = d .index ∙ add-one (wd .current) in
       record {
@@ -46,20 +50,14 @@ module _ (wd : World) (shaped : shape (numbersIn wd) (playerIn wd) ≡ true) whe
             ∙ mainNext-at (numbersIn wd) i (playerIn wd) w
             ∙ ap₂ (λ j v. mainAt j w i v) (entries-in wd) (window-in w wd)
             ∙ ap (λ i. mainAt (wd .journal) w i (sideAt w wd .view)) i≡);
-        shaped = ap (shape (numbersIn wd)) (withPlayer-player wd (o .next) n) ∙ main-shaped (numbersIn wd) (playerIn wd) shaped i;
+        shaped = ap (shape (numbersIn wd)) (withPlayer-player wd (o .next) n) ∙ main-shaped (numbersIn wd) i (playerIn wd) shaped;
       }
-
-  pub main-moves : (i : ℕ) → mainRule (numbersIn wd) i (playerIn wd) .answer ≡ 0 → Mained wd (step (main i) wd .world)
-  unfolding step
-  main-moves i e = mained i e
 
   facts-main : (i : ℕ) → Facts (main i) wd
   unfolding step
   facts-main i =
-      ⊎-elim
-      (λ (e : mainRule (numbersIn wd) i (playerIn wd) .answer ≡ 0). working refl (mains (main-moves i e)))
-      (λ (n : mainRule (numbersIn wd) i (playerIn wd) .answer ≡ 0 → ⊥). call-refused wd (main i) _ refl refl (mainRule-refuses (numbersIn wd) i (playerIn wd) n))
-      (eq-or-ne (mainRule (numbersIn wd) i (playerIn wd) .answer) 0)
+      call-either wd (main i) (mainRule (numbersIn wd) i (playerIn wd)) (λ x. x) (called-then _ wd) (λ n. refl)
+      (mainRule-refuses (numbersIn wd) i (playerIn wd)) (λ e. working refl (mains (main-moves i e)))
 
   -- ------------------------------------------------------------------------
   -- Start
@@ -71,13 +69,13 @@ module _ (wd : World) (shaped : shape (numbersIn wd) (playerIn wd) ≡ true) whe
   report-in : (w : ℕ) → getD (reportsIn wd) w 0 ≡ lastOf (sideAt w wd)
   report-in w = List·getD-map lastOf (wd .sides) w noSide
 
-  restarted : (b : ℕ) → startRule (numbersIn wd) (length (wd .sides)) b (reportsIn wd) (playerIn wd) .answer ≡ 0 → Restarted wd (step (start b) wd .world)
+  restarted : (b : ℕ) → startRule (numbersIn wd) (length (wd .sides)) b (reportsIn wd) (playerIn wd) .answer ≡ 0 →
+      Restarted wd (step (start b) wd .world)
   unfolding step withPlayer
   restarted b e =
       let o : Outcome = startRule (numbersIn wd) (length (wd .sides)) b (reportsIn wd) (playerIn wd) in
-      let d : StartDone (numbersIn wd) (length (wd .sides)) b (reportsIn wd) o = startRule-done (numbersIn wd) (length (wd .sides)) b (reportsIn wd) (playerIn wd) e in
-      let all : World → World = λ wd′. record { journal = wd′ .journal; limit = wd′ .limit; current = wd′ .current; sides = map cleared (wd′ .sides) } in
-      let is : step (start b) wd .world ≡ all (withPlayer (o .next) wd) = calledThen-done o all wd e in
+      let d = startRule-done (numbersIn wd) (length (wd .sides)) b (reportsIn wd) (playerIn wd) e in
+      let is : step (start b) wd .world ≡ clearedAll (withPlayer (o .next) wd) = calledThen-done o clearedAll wd e in
       let n : length (o .next .windows) ≡ length (wd .sides)
       = ap (λ q. length (q .windows)) (d .next) ∙ length-map (reportsIn wd) started ∙ length-map (wd .sides) lastOf in
       let reports : length (reportsIn wd) ≡ length (wd .sides) = length-map (wd .sides) lastOf in
@@ -95,7 +93,8 @@ module _ (wd : World) (shaped : shape (numbersIn wd) (playerIn wd) ≡ true) whe
             ∙ ap (λ v. withView v (sideAt w wd))
             (ap (windowAt w) (d .next) ∙ startNext-at b (reportsIn wd) w (omega arith) ∙ ap started (report-in w)));
         shaped =
-            ap (λ vs. shape (numbersIn wd) (record { limit = o .next .limit; current = o .next .current; windows = vs })) (views-cleared (withViews (o .next .windows) (wd .sides)))
+            ap (λ vs. shape (numbersIn wd) (record { limit = o .next .limit; current = o .next .current; windows = vs }))
+            (views-cleared (withViews (o .next .windows) (wd .sides)))
             ∙ ap (shape (numbersIn wd)) (withPlayer-player wd (o .next) n)
             ∙ start-shaped (numbersIn wd) (length (wd .sides)) b (reportsIn wd) (playerIn wd) e;
       })
@@ -103,15 +102,8 @@ module _ (wd : World) (shaped : shape (numbersIn wd) (playerIn wd) ≡ true) whe
   facts-start : (b : ℕ) → Facts (start b) wd
   unfolding step
   facts-start b =
-      let o : Outcome = startRule (numbersIn wd) (length (wd .sides)) b (reportsIn wd) (playerIn wd) in
-      ⊎-elim
-      (λ (e : o .answer ≡ 0). starting b refl (eq-eqb _ 0 e) (restarted b e))
-      (λ (n : o .answer ≡ 0 → ⊥).
-      working (ne-eqb _ 0 n)
-      (stays
-      (calledThen-refused o (λ wd′. record { journal = wd′ .journal; limit = wd′ .limit; current = wd′ .current; sides = map cleared (wd′ .sides) }) wd n
-      ∙ withPlayer-same wd (o .next) (startRule-refuses (numbersIn wd) (length (wd .sides)) b (reportsIn wd) (playerIn wd) n))))
-      (eq-or-ne (o .answer) 0)
+      call-either wd (start b) (startRule (numbersIn wd) (length (wd .sides)) b (reportsIn wd) (playerIn wd)) clearedAll refl (ne-eqb _ 0)
+      (startRule-refuses (numbersIn wd) (length (wd .sides)) b (reportsIn wd) (playerIn wd)) (λ e. starting b refl (eq-eqb _ 0 e) (restarted b e))
 
   -- ------------------------------------------------------------------------
   -- An append

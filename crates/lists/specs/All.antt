@@ -7,7 +7,7 @@ use borrow.Author.Tests.{eqb-true}
 use lib.ListN.{take, drop}
 use lib.Dec.{leb, eqb, leb·zero}
 use Rattle.lists.specs.Cases.{and-left, and-right}
-use Rattle.lists.specs.Elem.{elem}
+use Rattle.lists.specs.Elem.{elem, lastOr}
 
 -- every item passes a test
 unfoldable pub all : (ℕ → Bool) → List ℕ → Bool
@@ -68,3 +68,9 @@ all-elem p i (x ∷ xs) a e = go (eqb i x) refl e (all-elem p i xs (and-right (p
     go : (b : Bool) → eqb i x ≡ b → (b || elem i xs) ≡ true → (elem i xs ≡ true → p i ≡ true) → p i ≡ true
     go true q h ih = rw (eqb-true i x q) (and-left (p x) _ a)
     go false q h ih = ih h
+
+-- and so does the last item
+pub all-last : (p : ℕ → Bool) (a : ℕ) (xs : List ℕ) → p a ≡ true → all p xs ≡ true → p (lastOr a xs) ≡ true
+unfolding all
+all-last p a [] h e = h
+all-last p a (x ∷ xs) h e = all-last p x xs (and-left (p x) _ e) (and-right (p x) _ e)

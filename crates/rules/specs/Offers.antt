@@ -1,19 +1,27 @@
 -- The laws that the rules offer to other crates, all in one place. Demand 3 goes by these, and unfolds no rule.
 
 -- A check in a rule: where it stops the rule, and where the rule goes on.
-pub use Rattle.rules.specs.Turns.{check-yes, check-no, check-passed}
--- At one window: what an operation did that was answered 0.
-pub use Rattle.rules.specs.Turns.{sendAt-refuses, sendAt-can, sendAt-done, Caught, SentOut, WrittenOff, AckTaken, DroppedOff, JoinedOn, catchAt-older, writtenAt-older, ackAt-older}
--- What Main, Catch, Send and Ack make of a window, case by case.
-pub use Rattle.rules.specs.Moves.{requeue-same, enqueue-suspended, enqueue-room, mainAt-other, mainAt-suspended, mainAt-room, mainAt-normal, mainAt-fetching, mainAt-completed, mainAt-either, oneIf, fetched-more, fetched-last, launched-is, struck-front}
--- Send's batch in closed form, and what it leaves.
-pub use Rattle.rules.specs.Batches.{isEmpty-some, isEmpty-drop, batchOf-normal, batchOf-fetching, batchOf-more, batchOf-all, batchOf-drained, batchOf-suspended, ConditionAfter, same, emptied, batchOf-condition, batchOf-kept}
--- An answer other than 0 leaves the view as it was (`-refuses`); an operation on window w leaves every other window's view as it was
--- (`operate-others`); Main, seen at one window, depends on that window and the journal alone (`mainRule-at`).
-pub use Rattle.rules.specs.Laws.{Operated, operate-cases, operate-limit, operate-others, catchRule-refuses, catchRule-done, sendRule-refuses, sendRule-done, writtenRule-refuses, writtenRule-done, ackRule-refuses, ackRule-done, dropRule-refuses, dropRule-done, joinRule-refuses, joinRule-done, MainDone, mainRule-cases, mainRule-done, mainRule-refuses, mainRule-at, mainNext-at, mainRule-count, mainRule-can}
-pub use Rattle.rules.specs.Starts.{startNext, StartDone, startRule-done, startRule-refuses, startNext-at, least-le, least-some}
--- When an operation is answered 0.
-pub use Rattle.rules.specs.Cans.{catchRule-can, sendRule-can, writtenRule-can, ackRule-can}
--- The clauses of the shape as facts; a state in shape stays in shape under every operation, also after an append.
+pub use Rattle.rules.specs.Checks.{check-yes, check-no, check-passed}
+-- The clauses of the shape as facts.
 pub use Rattle.rules.specs.Shaped.{windowShaped, Shaped, shaped}
-pub use Rattle.rules.specs.Kept.{main-shaped, catch-shaped, send-shaped, written-shaped, ack-shaped, drop-shaped, join-shaped, start-shaped, append-shaped}
+-- An operation on a window. `LawfulRule` says of its outcome all that demand 3 needs: a refusal changes nothing; an answer 0 has the
+-- operation's effect on that window and no other; a state in shape stays in shape.
+pub use Rattle.rules.specs.Operate.{Operated, operate-cases, operate-limit, Effect, LawfulRule}
+-- Main: what it makes of a window, case by case; each window by its own rule; when it is answered 0; the shape.
+pub use Rattle.rules.specs.Main.{enqueue-suspended, enqueue-room, mainAt-other, mainAt-suspended, mainAt-room, mainAt-normal, mainAt-fetching, mainAt-completed, mainAt-either, mainNext-at, MainDone, mainRule-cases, mainRule-done, mainRule-refuses, mainRule-count, mainRule-can, main-shaped}
+-- Catch: what it makes of a window; what its answer 0 tells; when it is answered 0.
+pub use Rattle.rules.specs.Catch.{oneIf, fetched-more, fetched-last, Caught, catchEffect, catchRule-lawful, catchRule-can}
+-- Send: its batch in closed form; what the batch leaves of the window; what its answer 0 tells; when it is answered 0.
+pub use Rattle.rules.specs.Send.{isEmpty-some, isEmpty-drop, requeue-same, batchOf-normal, batchOf-fetching, batchOf-more, batchOf-all, batchOf-drained, batchOf-suspended, batchOf-cases, ConditionAfter, same, emptied, batchOf-condition, batchOf-kept, launched-is, SentOut, sendAt-refuses, sendAt-done, sendAt-can, sendEffect, sendRule-lawful, sendRule-done, sendRule-can}
+-- Written: what its answer 0 tells; when it is answered 0.
+pub use Rattle.rules.specs.Written.{WrittenOff, writtenEffect, writtenRule-lawful, writtenRule-can}
+-- Ack: the batches that it strikes off; what its answer 0 tells; when it is answered 0.
+pub use Rattle.rules.specs.Ack.{struck-front, AckTaken, ackEffect, ackRule-lawful, ackRule-done, ackRule-can}
+-- Drop: what its answer 0 tells.
+pub use Rattle.rules.specs.Drop.{DroppedOff, dropEffect, dropRule-lawful}
+-- Join: what its answer 0 tells.
+pub use Rattle.rules.specs.Join.{JoinedOn, joinEffect, joinRule-lawful, joinRule-done}
+-- Start: the least report; the player that it makes; what its answer 0 tells; the shape.
+pub use Rattle.rules.specs.Start.{least-le, least-some, startNext, startNext-at, StartDone, startRule-done, startRule-refuses, start-shaped}
+-- An append: the shape.
+pub use Rattle.rules.specs.Append.{append-shaped}

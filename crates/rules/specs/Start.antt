@@ -1,4 +1,4 @@
--- The laws of Start: when it is answered 0, what it then makes, and that a refusal changes nothing.
+-- The laws of Start: the least report, a started window, and the rule.
 use Prim.Native.Nat.{ℕ, zero, suc, _≤_, _<_}
 use mathlib.Core.Path.{_≡_, refl}
 use mathlib.Core.List.{List, [], _∷_, map}
@@ -6,15 +6,19 @@ use mathlib.Core.Bool.{Bool, true, false, not, cond, _&&_}
 use native.Mathlib.Omega.{arith}
 use native.Mathlib.Nat.{min-le-left, min-le-right}
 use borrow.Author.Tests.{eqb-true, leb-true}
-use lib.ListN.{length, getD}
+use lib.ListN.{length, getD, length-map}
 use lib.Dec.{leb, eqb}
 use Rattle.journal.specs.declared.Entry.{Entry}
 use Rattle.lists.specs.Cases.{and-left, and-right}
-use Rattle.journal.specs.Entry.{inShape, entriesOf}
+use Rattle.journal.specs.Entry.{inShape, countOf, entriesOf}
+use Rattle.journal.specs.EntryLaws.{entriesOf-length}
+use Rattle.lists.specs.All.{all}
 use Rattle.rules.specs.View.{PlayerView}
-use Rattle.rules.specs.Shape.{countFits, limitFits}
+use Rattle.rules.specs.Shape.{countFits, limitFits, shape}
 use Rattle.rules.specs.Window.{isReport, started}
 use Rattle.rules.specs.Rules.{Outcome, refuse, windowAt, areReports, least, startRule}
+use Rattle.rules.specs.Shaped.{WindowShaped, shape-of}
+use Rattle.rules.specs.Parts.{queued-none, normal-shaped, here-shaped}
 
 -- ------------------------------------------------------------------------
 -- least
@@ -35,16 +39,23 @@ least-some b (r ∷ rs) h = omega (arith, least-le (r ∷ rs) 0 (omega arith), h
 -- ------------------------------------------------------------------------
 -- areReports
 
-pub areReports-le : (j : List Entry) (w : ℕ) (rs : List ℕ) → areReports j w rs ≡ true → (i : ℕ) → i < length rs → getD rs i 0 ≤ length j
+areReports-le : (j : List Entry) (w : ℕ) (rs : List ℕ) → areReports j w rs ≡ true → (i : ℕ) → i < length rs → getD rs i 0 ≤ length j
 unfolding areReports
 areReports-le j w [] e i h = absurd (omega arith)
 areReports-le j w (r ∷ rs) e zero h = leb-true _ _ (and-left (leb r (length j)) _ (and-left (leb r (length j) && isReport j w r) _ e))
 areReports-le j w (r ∷ rs) e (suc i) h = areReports-le j (suc w) rs (and-right (leb r (length j) && isReport j w r) _ e) i (omega arith)
 
 -- ------------------------------------------------------------------------
--- Start
+-- at one window
 
+started-shaped : {l c r : ℕ} → r ≤ l → WindowShaped l c (started r)
+unfolding all
+started-shaped h =
+    here-shaped queued-none queued-none (record { ackedIn = h; sentIn = h; fits = omega arith; within = refl }) (normal-shaped refl)
+
+-- ------------------------------------------------------------------------
 -- the player after a Start that is answered 0
+
 abbrev pub startNext : ℕ → List ℕ → PlayerView
 startNext limit reports = record { limit = limit; current = least reports; windows = map started reports }
 
@@ -52,6 +63,9 @@ pub startNext-at : (limit : ℕ) (reports : List ℕ) (w : ℕ) → w < length r
 startNext-at limit [] w h = absurd (omega arith)
 startNext-at limit (r ∷ rs) zero h = refl
 startNext-at limit (r ∷ rs) (suc w) h = startNext-at limit rs w (omega arith)
+
+-- ------------------------------------------------------------------------
+-- the rule
 
 -- what a Start that can be answered 0 is given
 pub record Startable (ns : List ℕ) (count limit : ℕ) (reports : List ℕ) : Type 0 where
@@ -103,3 +117,23 @@ module _ (ns : List ℕ) (count limit : ℕ) (reports : List ℕ) (p : PlayerVie
   pub startRule-refuses : (startRule ns count limit reports p .answer ≡ 0 → ⊥) → startRule ns count limit reports p .next ≡ p
   startRule-refuses =
       startRule-cases (λ o. (o .answer ≡ 0 → ⊥) → o .next ≡ p) (λ n. refl) (λ n. refl) (λ g n. absurd (n refl))
+
+pub start-shaped : (ns : List ℕ) (c b : ℕ) (rs : List ℕ) (p : PlayerView) → startRule ns c b rs p .answer ≡ 0 →
+    shape ns (startRule ns c b rs p .next) ≡ true
+start-shaped ns c b rs p e =
+    let d = startRule-done ns c b rs p e in
+    let g = d .given in
+    let n : length (map started rs) ≡ length rs = length-map rs started in
+    let within : (i : ℕ) → i < length rs → getD rs i 0 ≤ countOf ns =
+    λ i h. rw (entriesOf-length ns) at (areReports-le (entriesOf ns) 0 rs (g .right) i h) in
+    rw (d .next)
+    (shape-of ns (startNext b rs)
+    (record {
+      some = omega (arith, g .some, g .each);
+      most = omega (arith, g .most, g .each);
+      limitSome = g .limitSome;
+      limitMost = g .limitMost;
+      journal = g .journal;
+      currentIn = least-some (countOf ns) rs within;
+      windows = λ w l. rw (startNext-at b rs w (rw n at l)) (started-shaped (within w (rw n at l)));
+    }))

@@ -1,0 +1,103 @@
+-- The laws of Ack: the batches that it strikes off, what it does at one window, and the rule.
+use Prim.Native.Nat.{ℕ, suc, _≤_, _<_}
+use mathlib.Core.Path.{_≡_, refl, ap}
+use mathlib.Core.List.{List, [], _∷_}
+use mathlib.Core.Bool.{Bool, true, false, not, cond}
+use native.Mathlib.Omega.{arith}
+use borrow.Author.Tests.{leb-true, eq-eqb, not-false}
+use lib.ListN.{length}
+use lib.Dec.{eqb}
+use Rattle.lists.specs.Cases.{and-right}
+use Rattle.lists.specs.Elem.{elem}
+use Rattle.lists.specs.All.{all, heldIn, all-elem}
+use Rattle.rules.specs.declared.Term.{Term}
+use Rattle.rules.specs.View.{WindowView, PlayerView}
+use Rattle.rules.specs.Shape.{shape}
+use Rattle.rules.specs.Window.{isSuspended, otherTerm, struck, acknowledged, ackAt}
+use Rattle.rules.specs.Rules.{windowAt, ackRule}
+use Rattle.rules.specs.Checks.{Decides, done-decides, check-decides, otherTerm-same, otherTerm-own}
+use Rattle.rules.specs.Shaped.{WindowShaped}
+use Rattle.rules.specs.Parts.{normalQueued, catchQueued, conditionShaped, here-shaped}
+use Rattle.rules.specs.Operate.{Operated, Lawful, decides-lawful, Effect, LawfulRule, operate-can, operate-lawful}
+
+-- ------------------------------------------------------------------------
+-- the batches struck off
+
+-- the oldest batch is struck off by its own index
+pub struck-front : (i : ℕ) (xs : List ℕ) → struck i (i ∷ xs) ≡ xs
+unfolding struck
+struck-front i xs = simp (eq-eqb i i refl)
+
+struck-length : (i : ℕ) (xs : List ℕ) → length (struck i xs) ≤ length xs
+unfolding struck
+struck-length i [] = omega arith
+struck-length i (x ∷ xs) = go (eqb i x) (struck-length i xs)
+  where
+    go : (b : Bool) → length (struck i xs) ≤ length xs → length (cond b xs (struck i xs)) ≤ suc (length xs)
+    go true h = omega arith
+    go false h = omega arith
+
+all-struck : (p : ℕ → Bool) (i : ℕ) (xs : List ℕ) → all p xs ≡ true → all p (struck i xs) ≡ true
+unfolding struck all
+all-struck p i [] a = refl
+all-struck p i (x ∷ xs) a = go (eqb i x) (all-struck p i xs (and-right (p x) _ a))
+  where
+    go : (b : Bool) → all p (struck i xs) ≡ true → all p (cond b xs (struck i xs)) ≡ true
+    go true h = and-right (p x) _ a
+    go false h = h
+
+-- the window stays in shape
+acknowledged-shaped : {l c : ℕ} (i : ℕ) (v : WindowView) → WindowShaped l c v → isSuspended (v .condition) ≡ false → elem i (v .batches) ≡ true →
+    WindowShaped l c (acknowledged i v)
+acknowledged-shaped {l} i v s here out =
+    here-shaped (normalQueued s) (catchQueued s)
+    (record {
+      ackedIn = leb-true i l (all-elem (heldIn l) i (v .batches) (s .batchesIn) out);
+      sentIn = s .sentIn;
+      fits = omega (arith, struck-length i (v .batches), s .batchesFit);
+      within = all-struck (heldIn l) i (v .batches) (s .batchesIn);
+    })
+    (conditionShaped s here)
+
+-- ------------------------------------------------------------------------
+-- at one window
+
+ackAt-decides : (t : Term) (i : ℕ) (v : WindowView) →
+    Decides (isSuspended (v .condition) ∷ otherTerm t v ∷ not (elem i (v .batches)) ∷ []) v (acknowledged i v) (ackAt t i v)
+unfolding ackAt
+ackAt-decides t i v = check-decides 2 (check-decides 4 (check-decides 10 (done-decides v _)))
+
+-- answered 0: the window was not Suspended, the term was its own, and a batch that ends at the index was out
+pub record AckTaken (t : Term) (i : ℕ) (v : WindowView) : Type 0 where
+  pub here : isSuspended (v .condition) ≡ false
+  pub term : t .0 ≡ v .term .0
+  pub out : elem i (v .batches) ≡ true
+  pub next : ackAt t i v .next ≡ acknowledged i v
+
+ackAt-lawful : (c : ℕ) (t : Term) (i : ℕ) (v : WindowView) → Lawful c v (ackAt t i v) (AckTaken t i v) (λ d. acknowledged i v)
+ackAt-lawful c t i v =
+    decides-lawful (ackAt-decides t i v)
+    (λ (here, (term, (out, _))) next. record { here = here; term = otherTerm-same t v term; out = not-false _ out; next = next })
+    (λ d l most s. acknowledged-shaped i v s (d .here) (d .out))
+
+-- ------------------------------------------------------------------------
+-- the rule
+
+abbrev pub ackEffect : Term → ℕ → Effect
+ackEffect t i = record { tells = λ j v. AckTaken t i v; makes = λ j v d. acknowledged i v }
+
+pub ackRule-lawful : (ns : List ℕ) (w : ℕ) (t : Term) (i : ℕ) (p : PlayerView) → LawfulRule ns w p (ackRule ns w t i p) (ackEffect t i)
+unfolding ackRule
+ackRule-lawful ns w t i p = operate-lawful ns w _ p _ (ackAt-lawful _ t i _)
+
+pub ackRule-done : (ns : List ℕ) (w : ℕ) (t : Term) (i : ℕ) (p : PlayerView) → ackRule ns w t i p .answer ≡ 0 →
+    Operated ns w p (ackRule ns w t i p) (AckTaken t i (windowAt w p)) (λ c. acknowledged i (windowAt w p))
+ackRule-done ns w t i p = ackRule-lawful ns w t i p .does
+
+pub ackRule-can : (ns : List ℕ) (w : ℕ) (p : PlayerView) → shape ns p ≡ true → w < length (p .windows) →
+    (i : ℕ) → isSuspended (windowAt w p .condition) ≡ false → elem i (windowAt w p .batches) ≡ true →
+    ackRule ns w (windowAt w p .term) i p .answer ≡ 0
+unfolding ackRule
+ackRule-can ns w p shaped within i here out =
+    let v : WindowView = windowAt w p in
+    operate-can ns w _ p _ shaped within (ackAt-decides (v .term) i v .can (here, (otherTerm-own v, (ap not out, tt))))

@@ -1,0 +1,59 @@
+-- The laws of Drop: what it does at one window, and the rule.
+use Prim.Native.Nat.{ℕ}
+use mathlib.Core.Path.{_≡_, refl}
+use mathlib.Core.List.{List, [], _∷_}
+use mathlib.Core.Bool.{false}
+use native.Mathlib.Omega.{arith}
+use Rattle.lists.specs.All.{all}
+use Rattle.rules.specs.View.{WindowView, PlayerView}
+use Rattle.rules.specs.Window.{isSuspended, dropped, dropAt}
+use Rattle.rules.specs.Rules.{dropRule}
+use Rattle.rules.specs.Checks.{Decides, done-decides, check-decides}
+use Rattle.rules.specs.Shaped.{WindowShaped}
+use Rattle.rules.specs.Operate.{Lawful, decides-lawful, Effect, LawfulRule, operate-lawful}
+
+-- ------------------------------------------------------------------------
+-- at one window
+
+dropAt-decides : (v : WindowView) → Decides (isSuspended (v .condition) ∷ []) v (dropped v) (dropAt v)
+unfolding dropAt
+dropAt-decides v = check-decides 2 (done-decides v _)
+
+-- answered 0: the window was not Suspended
+pub record DroppedOff (v : WindowView) : Type 0 where
+  pub here : isSuspended (v .condition) ≡ false
+  pub next : dropAt v .next ≡ dropped v
+
+-- the window stays in shape
+dropped-shaped : {l c : ℕ} {v : WindowView} → WindowShaped l c v → WindowShaped l c (dropped v)
+unfolding all
+dropped-shaped s =
+    record {
+      normalFits = omega arith;
+      catchFits = omega arith;
+      batchesFit = omega arith;
+      normalIn = refl;
+      catchIn = refl;
+      ackedIn = s .ackedIn;
+      sentIn = s .sentIn;
+      batchesIn = refl;
+      conditionIn = refl;
+      next = refl;
+      end = refl;
+      catchUp = refl;
+      away = refl;
+    }
+
+dropAt-lawful : (c : ℕ) (v : WindowView) → Lawful c v (dropAt v) (DroppedOff v) (λ d. dropped v)
+dropAt-lawful c v =
+    decides-lawful (dropAt-decides v) (λ (here, _) next. record { here = here; next = next }) (λ d l most s. dropped-shaped s)
+
+-- ------------------------------------------------------------------------
+-- the rule
+
+abbrev pub dropEffect : Effect
+dropEffect = record { tells = λ j v. DroppedOff v; makes = λ j v d. dropped v }
+
+pub dropRule-lawful : (ns : List ℕ) (w : ℕ) (p : PlayerView) → LawfulRule ns w p (dropRule ns w p) dropEffect
+unfolding dropRule
+dropRule-lawful ns w p = operate-lawful ns w _ p _ (dropAt-lawful _ _)

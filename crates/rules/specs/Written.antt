@@ -1,0 +1,53 @@
+-- The laws of Written: what it does at one window, and the rule.
+use Prim.Native.Nat.{ℕ, _<_}
+use mathlib.Core.Path.{_≡_, ap}
+use mathlib.Core.List.{List, [], _∷_}
+use mathlib.Core.Bool.{true, false, not}
+use borrow.Author.Tests.{not-false}
+use lib.ListN.{length}
+use Rattle.rules.specs.declared.Term.{Term}
+use Rattle.rules.specs.View.{WindowView, PlayerView}
+use Rattle.rules.specs.Shape.{shape}
+use Rattle.rules.specs.Window.{isSuspended, otherTerm, freed, writtenAt}
+use Rattle.rules.specs.Rules.{windowAt, writtenRule}
+use Rattle.rules.specs.Checks.{Decides, done-decides, check-decides, otherTerm-same, otherTerm-own}
+use Rattle.rules.specs.Parts.{normalQueued, catchQueued, lined, conditionShaped, here-shaped}
+use Rattle.rules.specs.Operate.{Lawful, decides-lawful, Effect, LawfulRule, operate-can, operate-lawful}
+
+-- ------------------------------------------------------------------------
+-- at one window
+
+writtenAt-decides : (t : Term) (v : WindowView) →
+    Decides (isSuspended (v .condition) ∷ otherTerm t v ∷ not (v .busy) ∷ []) v (freed v) (writtenAt t v)
+unfolding writtenAt
+writtenAt-decides t v = check-decides 2 (check-decides 4 (check-decides 7 (done-decides v _)))
+
+-- answered 0: the window was not Suspended, the term was its own, and its line was busy
+pub record WrittenOff (t : Term) (v : WindowView) : Type 0 where
+  pub here : isSuspended (v .condition) ≡ false
+  pub term : t .0 ≡ v .term .0
+  pub was : v .busy ≡ true
+  pub next : writtenAt t v .next ≡ freed v
+
+writtenAt-lawful : (c : ℕ) (t : Term) (v : WindowView) → Lawful c v (writtenAt t v) (WrittenOff t v) (λ d. freed v)
+writtenAt-lawful c t v =
+    decides-lawful (writtenAt-decides t v)
+    (λ (here, (term, (free, _))) next. record { here = here; term = otherTerm-same t v term; was = not-false _ free; next = next })
+    (λ d l most s. here-shaped (normalQueued s) (catchQueued s) (lined s) (conditionShaped s (d .here)))
+
+-- ------------------------------------------------------------------------
+-- the rule
+
+abbrev pub writtenEffect : Term → Effect
+writtenEffect t = record { tells = λ j v. WrittenOff t v; makes = λ j v d. freed v }
+
+pub writtenRule-lawful : (ns : List ℕ) (w : ℕ) (t : Term) (p : PlayerView) → LawfulRule ns w p (writtenRule ns w t p) (writtenEffect t)
+unfolding writtenRule
+writtenRule-lawful ns w t p = operate-lawful ns w _ p _ (writtenAt-lawful _ t _)
+
+pub writtenRule-can : (ns : List ℕ) (w : ℕ) (p : PlayerView) → shape ns p ≡ true → w < length (p .windows) →
+    isSuspended (windowAt w p .condition) ≡ false → windowAt w p .busy ≡ true → writtenRule ns w (windowAt w p .term) p .answer ≡ 0
+unfolding writtenRule
+writtenRule-can ns w p shaped within here busy =
+    let v : WindowView = windowAt w p in
+    operate-can ns w _ p _ shaped within (writtenAt-decides (v .term) v .can (here, (otherTerm-own v, (ap not busy, tt))))
