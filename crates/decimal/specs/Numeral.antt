@@ -2,8 +2,9 @@
 use Prim.Native.Nat.{ℕ, zero, suc, _+_, _*_, _-_, _/_, _%_}
 use mathlib.Core.List.{List, [], _∷_, _++_}
 use mathlib.Core.Bool.{Bool, true, false, not, cond, _&&_}
-use lib.ListN.{length, take, drop}
+use lib.ListN.{length, drop}
 use lib.Dec.{leb, ltb, eqb}
+use Rattle.lists.specs.Over.{over}
 use Rattle.decimal.specs.declared.Numeral.{Numeral}
 use Rattle.decimal.specs.declared.Numeral.the-variants.{Number, Nothing}
 use Rattle.decimal.specs.declared.Written.{Written}
@@ -54,6 +55,5 @@ unfoldable pub writeAt : ℕ → ℕ → ℕ → Written
 writeAt n size at = cond (room n size at) (To (at + length (numeral n))) NoRoom
 
 -- what the buffer then holds: the numeral at the place and all else as before; where there is no room, all as before
-unfoldable pub writtenAt : ℕ → List ℕ → ℕ → List ℕ
-writtenAt n buf at =
-    cond (room n (length buf) at) (take at buf ++ numeral n ++ drop (at + length (numeral n)) buf) buf
+unfoldable pub withNumeral : ℕ → List ℕ → ℕ → List ℕ
+withNumeral n buf at = cond (room n (length buf) at) (over at (numeral n) buf) buf
