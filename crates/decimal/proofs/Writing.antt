@@ -31,5 +31,6 @@ module _ (n : ℕ) (buf : List ℕ) (at i : ℕ) (last : i + 1 ≡ at + length (
       let front : List ℕ = numeral (n / 10) in
       let e : i ≡ at + length front = omega (arith, numeral-length-step n h) in
       let stored : set buf i x ≡ over (at + length front) (x ∷ []) buf = rw (← e) (over-stores i x [] buf (omega arith)) in
-      rw (withNumeral-room (n / 10) (set buf i x) at (omega (arith, length-set buf i x)), withNumeral-room n buf at (omega arith), stored, numeral-step n h)
+      let fits : at + length front ≤ length (set buf i x) = omega (arith, length-set buf i x) in
+      rw (withNumeral-room (n / 10) (set buf i x) at fits, withNumeral-room n buf at (omega arith), stored, numeral-step n h)
       (over-prepend at front (x ∷ []) buf (omega arith))

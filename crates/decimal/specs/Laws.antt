@@ -25,14 +25,14 @@ read-at bound n at text rest h f e =
     let d : front (drop at text) ≡ numeral n = ap front e ∙ front-numeral n rest f in
     simp (d, value-numeral n, canonical-numeral n, le-leb n bound h)
 
--- what was written reads back
+-- A result to be read: what was written reads back.
 pub read-numeral : (bound n : ℕ) (before rest : List ℕ) → n ≤ bound → front rest ≡ []
     → readAt bound (before ++ numeral n ++ rest) (length before) ≡ Number n (length before + length (numeral n))
 read-numeral bound n before rest h f =
     read-at bound n (length before) (before ++ numeral n ++ rest) rest h f
     (rw append-assoc (drop-append-seam before (numeral n ++ rest)))
 
--- where nothing is read, no numeral of at most the bound stands
+-- A result to be read: where nothing is read, no numeral of at most the bound stands.
 pub read-refuses : (bound : ℕ) (text : List ℕ) (at n : ℕ) (rest : List ℕ) → readAt bound text at ≡ Nothing
     → n ≤ bound → front rest ≡ [] → drop at text ≡ numeral n ++ rest → ⊥
 read-refuses bound text at n rest e h f d =
@@ -126,7 +126,7 @@ withNumeral-reads bound n buf at h fits f =
     rw (withNumeral-room n buf at fits)
     (rw l at (read-numeral bound n (take at buf) (drop (at + length (numeral n)) buf) h f))
 
--- Examples
+-- Examples, to be read
 
 numeral-greatest : numeral 4294967295 ≡ 52 ∷ 50 ∷ 57 ∷ 52 ∷ 57 ∷ 54 ∷ 55 ∷ 50 ∷ 57 ∷ 53 ∷ []
 unfolding numeral

@@ -4,6 +4,7 @@ use mathlib.Core.List.{List, [], _∷_, _++_}
 use mathlib.Core.Bool.{Bool, true, false, not, cond, _&&_}
 use lib.ListN.{length, drop}
 use lib.Dec.{leb, ltb, eqb}
+use Rattle.lists.specs.All.{between}
 use Rattle.lists.specs.Over.{over}
 use Rattle.decimal.specs.declared.Numeral.{Numeral}
 use Rattle.decimal.specs.declared.Numeral.the-variants.{Number, Nothing}
@@ -12,7 +13,7 @@ use Rattle.decimal.specs.declared.Written.the-variants.{To, NoRoom}
 
 -- one of the bytes `0` to `9`
 abbrev pub isDigit : ℕ → Bool
-isDigit b = leb 48 b && leb b 57
+isDigit = between 48 57
 
 -- the numeral of n: its digits from the highest, with no leading zero but in `0` itself. The fuel bounds the digits, and n is enough of it
 unfoldable pub numeralBy : ℕ → ℕ → List ℕ

@@ -31,12 +31,14 @@ over-append at a b out h =
     let front : List ℕ = take at out ++ a in
     let back : List ℕ = drop (at + length a) out in
     let n : length front ≡ at + length a = simp (length-append, length-take-le at out h) in
-    let after : drop (at + length a + length b) (front ++ back) ≡ drop (at + length a + length b) out
-    = rw (← drop-drop (length b) (at + length a) (front ++ back), drop-at front back (at + length a) n) (drop-drop (length b) (at + length a) out) in
-    rw (take-at front back (at + length a) n, after, length-append, ← add-assoc at (length a) (length b)) (simp append-assoc)
+    let end : ℕ = at + length a in
+    let after : drop (end + length b) (front ++ back) ≡ drop (end + length b) out
+    = rw (← drop-drop (length b) end (front ++ back), drop-at front back end n) (drop-drop (length b) end out) in
+    rw (take-at front back end n, after, length-append, ← add-assoc at (length a) (length b)) (simp append-assoc)
 
 -- and so is a list written right before another
-pub over-prepend : (at : ℕ) (a b out : List ℕ) → at + length a ≤ length out → over at a (over (at + length a) b out) ≡ over at (a ++ b) out
+pub over-prepend : (at : ℕ) (a b out : List ℕ) → at + length a ≤ length out
+    → over at a (over (at + length a) b out) ≡ over at (a ++ b) out
 unfolding over
 over-prepend at a b out h =
     let front : List ℕ = take (at + length a) out in
@@ -59,6 +61,7 @@ storedFrom-sets at k [] out = refl
 storedFrom-sets at k (x ∷ xs) out = storedFrom-sets at (suc k) xs (set out (at + k) x) ∙ rw add-suc
 
 -- `out[at] = x; out[at + 1] = ..`: the numbers are written over the list
-pub over-stores : (at x : ℕ) (xs out : List ℕ) → at + suc (length xs) ≤ length out → storedFrom at 1 xs (set out at x) ≡ over at (x ∷ xs) out
+pub over-stores : (at x : ℕ) (xs out : List ℕ) → at + suc (length xs) ≤ length out
+    → storedFrom at 1 xs (set out at x) ≡ over at (x ∷ xs) out
 unfolding over
 over-stores at x xs out h = rw (storedFrom-sets at 1 xs (set out at x), add-one) (sets-eq (x ∷ xs) out at h)

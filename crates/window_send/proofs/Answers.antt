@@ -15,7 +15,8 @@ use Rattle.rules.specs.Window.{check, isSuspended, batchOf, launched, sendAt}
 use Rattle.rules.specs.Rules.{batchNumbers}
 use Rattle.rules.specs.Offers.{check-yes, check-no, check-passed, sendAt-refuses, sendAt-can, SentOut, sendAt-done}
 use Rattle.window_send.specs.Sending.{sendGuard, sendTurn, turnOutput}
-use Rattle.window_send.specs.Shares.{caughtOf, queuedOf, parted, caughtOf-held, queuedOf-held, shares-limit, batchOf-parted, batchOf-length}
+use Rattle.window_send.specs.Shares.{caughtOf, queuedOf, parted}
+use Rattle.window_send.specs.Shares.{caughtOf-held, queuedOf-held, shares-limit, batchOf-parted, batchOf-length}
 use Rattle.window.proofs.Empty.{isEmpty-yes, isEmpty-no}
 
 -- ------------------------------------------------------------------------

@@ -40,10 +40,12 @@ same-length c = search needs
 
 returns-3 : tie.Need-returns-3
 returns-3 c =
-    let a = c .before .before .before .before .before .before .before .before .args in
-    let l = c .before .before .before .before .before .before .digits .ensures in (
+    let filled = c .before .before in
+    let counted = filled .before .before .before .before in
+    let a = counted .before .before .args in
+    let l = counted .digits .ensures in (
       ap (λ (k : ℕ). To (a .at + k)) l ∙ sym (write-room _ _ _ (omega arith)),
-      c .before .before .fill .ensures ∙ ap (withNumeral (a .n) (now (a .out))) (omega (arith, l)),
+      filled .fill .ensures ∙ ap (withNumeral (a .n) (now (a .out))) (omega (arith, l)),
     )
 
 pub write-spec : {M : Type 1} → statement M
