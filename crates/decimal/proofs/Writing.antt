@@ -1,14 +1,13 @@
 -- What `fill` rests on: a number's last digit stored at its place, and the digits before it written over that, are the number written.
-use Prim.Native.Nat.{ℕ, suc, _+_, _/_, _%_, _≤_, _<_}
+use Prim.Native.Nat.{ℕ, _+_, _/_, _%_, _≤_, _<_}
 use native.Mathlib.Omega.{arith}
-use native.Mathlib.Numerals.{add-one}
-use mathlib.Core.Path.{_≡_, sym}
-use mathlib.Core.List.{List, _∷_, append-assoc}
-use lib.ListN.{length, take, drop, set, length-append, length-set}
-use lib.Seq.{append-snoc, set-split, take-set-le, drop-at, length-take-le}
-use Rattle.decimal.specs.Numeral.{numeral, writtenAt}
+use mathlib.Core.Path.{_≡_}
+use mathlib.Core.List.{List, [], _∷_}
+use lib.ListN.{length, set, length-append, length-set}
+use Rattle.lists.specs.Over.{over, over-stores, over-prepend}
+use Rattle.decimal.specs.Numeral.{numeral, withNumeral}
 use Rattle.decimal.specs.Value.{numeral-small, numeral-step}
-use Rattle.decimal.specs.Laws.{written-room}
+use Rattle.decimal.specs.Laws.{withNumeral-room}
 
 -- numeral
 
@@ -18,22 +17,20 @@ numeral-length-small n h = rw (numeral-small n h)
 pub numeral-length-step : (n : ℕ) → 10 ≤ n → length (numeral n) ≡ length (numeral (n / 10)) + 1
 numeral-length-step n h = rw (numeral-step n h, length-append)
 
--- writtenAt
+-- withNumeral
 
 module _ (n : ℕ) (buf : List ℕ) (at i : ℕ) (last : i + 1 ≡ at + length (numeral n)) (within : i < length buf) where
-  pub written-last : n < 10 → set buf i (48 + n) ≡ writtenAt n buf at
-  written-last h =
+  pub withNumeral-last : n < 10 → set buf i (48 + n) ≡ withNumeral n buf at
+  withNumeral-last h =
       let e : at ≡ i = omega (arith, numeral-length-small n h) in
-      rw (written-room n buf at (omega arith), ← last, add-one, e, numeral-small n h, set-split buf i (48 + n) within)
-      (sym (append-snoc (take i buf) (48 + n) (drop (suc i) buf)))
+      rw (withNumeral-room n buf at (omega arith), numeral-small n h, e) (over-stores i (48 + n) [] buf (omega arith))
 
-  pub written-step : 10 ≤ n → writtenAt (n / 10) (set buf i (48 + n % 10)) at ≡ writtenAt n buf at
-  written-step h =
+  pub withNumeral-step : 10 ≤ n → withNumeral (n / 10) (set buf i (48 + n % 10)) at ≡ withNumeral n buf at
+  withNumeral-step h =
       let x : ℕ = 48 + n % 10 in
-      let e : at + length (numeral (n / 10)) ≡ i = omega (arith, numeral-length-step n h) in
-      let fits : at + length (numeral (n / 10)) ≤ length (set buf i x) = omega (arith, length-set buf i x) in
-      let before : take at (set buf i x) ≡ take at buf = take-set-le at buf i x (omega arith) in
-      let after : drop i (set buf i x) ≡ x ∷ drop (suc i) buf =
-      rw (set-split buf i x within) (drop-at (take i buf) (x ∷ drop (suc i) buf) i (length-take-le i buf (omega arith))) in
-      rw (written-room (n / 10) (set buf i x) at fits, e, before, after)
-      (rw (written-room n buf at (omega arith), ← last, add-one, numeral-step n h) (simp append-assoc))
+      let front : List ℕ = numeral (n / 10) in
+      let e : i ≡ at + length front = omega (arith, numeral-length-step n h) in
+      let stored : set buf i x ≡ over (at + length front) (x ∷ []) buf = rw (← e) (over-stores i x [] buf (omega arith)) in
+      let fits : at + length front ≤ length (set buf i x) = omega (arith, length-set buf i x) in
+      rw (withNumeral-room (n / 10) (set buf i x) at fits, withNumeral-room n buf at (omega arith), stored, numeral-step n h)
+      (over-prepend at front (x ∷ []) buf (omega arith))

@@ -4,11 +4,12 @@ use native.Mathlib.Omega.{arith}
 use mathlib.Core.Path.{_≡_, refl, _∙_, ap}
 use mathlib.Core.List.{List, [], _∷_, _++_, append-assoc}
 use mathlib.Core.Bool.{Bool, true, false, _&&_, and-eq-true-iff}
-use lib.ListN.{length, take, drop, replicate, length-append, length-take, length-drop}
+use lib.ListN.{length, take, drop, replicate}
 use lib.Seq.{drop-drop, drop-append-seam, length-take-le}
 use lib.Dec.{leb}
 use borrow.Author.Tests.{le-leb, lt-leb, leb-true, leb-false}
-use Rattle.decimal.specs.Numeral.{front, valueFrom, canonical, numeral, readAt, room, writeAt, writtenAt}
+use Rattle.lists.specs.Over.{over, over-length}
+use Rattle.decimal.specs.Numeral.{front, valueFrom, canonical, numeral, readAt, room, writeAt, withNumeral}
 use Rattle.decimal.specs.Value.{front-front, front-split, front-rest, front-numeral}
 use Rattle.decimal.specs.Value.{value-numeral, canonical-numeral, numeral-canonical}
 use Rattle.decimal.specs.declared.Numeral.the-variants.{Number, Nothing}
@@ -24,14 +25,14 @@ read-at bound n at text rest h f e =
     let d : front (drop at text) ≡ numeral n = ap front e ∙ front-numeral n rest f in
     simp (d, value-numeral n, canonical-numeral n, le-leb n bound h)
 
--- what was written reads back
+-- A result to be read: what was written reads back.
 pub read-numeral : (bound n : ℕ) (before rest : List ℕ) → n ≤ bound → front rest ≡ []
     → readAt bound (before ++ numeral n ++ rest) (length before) ≡ Number n (length before + length (numeral n))
 read-numeral bound n before rest h f =
     read-at bound n (length before) (before ++ numeral n ++ rest) rest h f
     (rw append-assoc (drop-append-seam before (numeral n ++ rest)))
 
--- where nothing is read, no numeral of at most the bound stands
+-- A result to be read: where nothing is read, no numeral of at most the bound stands.
 pub read-refuses : (bound : ℕ) (text : List ℕ) (at n : ℕ) (rest : List ℕ) → readAt bound text at ≡ Nothing
     → n ≤ bound → front rest ≡ [] → drop at text ≡ numeral n ++ rest → ⊥
 read-refuses bound text at n rest e h f d =
@@ -72,24 +73,24 @@ read-accepts bound text at n next e = go (canonical ds && leb (valueFrom 0 ds) b
 
 -- Writing
 
--- where there is room: the place after the numeral, and the numeral between what stands before and after it
+-- where there is room: the place after the numeral, and the numeral written over the buffer
 pub write-room : (n size at : ℕ) → at + length (numeral n) ≤ size → writeAt n size at ≡ To (at + length (numeral n))
 unfolding writeAt
 write-room n size at h = simp (le-leb (at + length (numeral n)) size h)
 
-pub written-room : (n : ℕ) (buf : List ℕ) (at : ℕ) → at + length (numeral n) ≤ length buf
-    → writtenAt n buf at ≡ take at buf ++ numeral n ++ drop (at + length (numeral n)) buf
-unfolding writtenAt
-written-room n buf at h = simp (le-leb (at + length (numeral n)) (length buf) h)
+pub withNumeral-room : (n : ℕ) (buf : List ℕ) (at : ℕ) → at + length (numeral n) ≤ length buf
+    → withNumeral n buf at ≡ over at (numeral n) buf
+unfolding withNumeral
+withNumeral-room n buf at h = simp (le-leb (at + length (numeral n)) (length buf) h)
 
 -- where there is none: the buffer as it was
 pub write-full : (n size at : ℕ) → size < at + length (numeral n) → writeAt n size at ≡ NoRoom
 unfolding writeAt
 write-full n size at h = simp (lt-leb (at + length (numeral n)) size h)
 
-pub written-full : (n : ℕ) (buf : List ℕ) (at : ℕ) → length buf < at + length (numeral n) → writtenAt n buf at ≡ buf
-unfolding writtenAt
-written-full n buf at h = simp (lt-leb (at + length (numeral n)) (length buf) h)
+pub withNumeral-full : (n : ℕ) (buf : List ℕ) (at : ℕ) → length buf < at + length (numeral n) → withNumeral n buf at ≡ buf
+unfolding withNumeral
+withNumeral-full n buf at h = simp (lt-leb (at + length (numeral n)) (length buf) h)
 
 -- what a write that answers a place tells
 pub record Fitted (n size at next : ℕ) : Type 0 where
@@ -107,24 +108,25 @@ write-accepts n size at next e = go (room n size at) refl
         let z : _≡_ {A = ℕ} 0 1 = cc (write-full n size at (leb-false (at + length (numeral n)) size p)) in
         absurd (omega arith)
 
-pub written-length : (n : ℕ) (buf : List ℕ) (at : ℕ) → length (writtenAt n buf at) ≡ length buf
-written-length n buf at = go (room n (length buf) at) refl
+pub withNumeral-length : (n : ℕ) (buf : List ℕ) (at : ℕ) → length (withNumeral n buf at) ≡ length buf
+withNumeral-length n buf at = go (room n (length buf) at) refl
   where
-    go : (t : Bool) → room n (length buf) at ≡ t → length (writtenAt n buf at) ≡ length buf
+    go : (t : Bool) → room n (length buf) at ≡ t → length (withNumeral n buf at) ≡ length buf
     go true p =
         let h : at + length (numeral n) ≤ length buf = leb-true (at + length (numeral n)) (length buf) p in
-        rw (written-room n buf at h) (simp (length-append, length-take, length-drop) (omega arith))
-    go false p = ap length (written-full n buf at (leb-false (at + length (numeral n)) (length buf) p))
+        rw (withNumeral-room n buf at h) (over-length at (numeral n) buf h)
+    go false p = ap length (withNumeral-full n buf at (leb-false (at + length (numeral n)) (length buf) p))
 
--- what a write with room left reads back, where no digit follows
-pub written-numeral : (bound n : ℕ) (buf : List ℕ) (at : ℕ) → n ≤ bound → at + length (numeral n) ≤ length buf
-    → front (drop (at + length (numeral n)) buf) ≡ [] → readAt bound (writtenAt n buf at) at ≡ Number n (at + length (numeral n))
-written-numeral bound n buf at h fits f =
+-- A result to be read: what a write leaves reads back, where no digit follows.
+pub withNumeral-reads : (bound n : ℕ) (buf : List ℕ) (at : ℕ) → n ≤ bound → at + length (numeral n) ≤ length buf
+    → front (drop (at + length (numeral n)) buf) ≡ [] → readAt bound (withNumeral n buf at) at ≡ Number n (at + length (numeral n))
+unfolding over
+withNumeral-reads bound n buf at h fits f =
     let l : length (take at buf) ≡ at = length-take-le at buf (omega arith) in
-    rw (written-room n buf at fits)
+    rw (withNumeral-room n buf at fits)
     (rw l at (read-numeral bound n (take at buf) (drop (at + length (numeral n)) buf) h f))
 
--- Examples
+-- Examples, to be read
 
 numeral-greatest : numeral 4294967295 ≡ 52 ∷ 50 ∷ 57 ∷ 52 ∷ 57 ∷ 54 ∷ 55 ∷ 50 ∷ 57 ∷ 53 ∷ []
 unfolding numeral

@@ -2,8 +2,10 @@
 use Prim.Native.Nat.{ℕ, zero, suc, _+_, _*_, _-_, _/_, _%_}
 use mathlib.Core.List.{List, [], _∷_, _++_}
 use mathlib.Core.Bool.{Bool, true, false, not, cond, _&&_}
-use lib.ListN.{length, take, drop}
+use lib.ListN.{length, drop}
 use lib.Dec.{leb, ltb, eqb}
+use Rattle.lists.specs.All.{between}
+use Rattle.lists.specs.Over.{over}
 use Rattle.decimal.specs.declared.Numeral.{Numeral}
 use Rattle.decimal.specs.declared.Numeral.the-variants.{Number, Nothing}
 use Rattle.decimal.specs.declared.Written.{Written}
@@ -11,7 +13,7 @@ use Rattle.decimal.specs.declared.Written.the-variants.{To, NoRoom}
 
 -- one of the bytes `0` to `9`
 abbrev pub isDigit : ℕ → Bool
-isDigit b = leb 48 b && leb b 57
+isDigit = between 48 57
 
 -- the numeral of n: its digits from the highest, with no leading zero but in `0` itself. The fuel bounds the digits, and n is enough of it
 unfoldable pub numeralBy : ℕ → ℕ → List ℕ
@@ -54,6 +56,5 @@ unfoldable pub writeAt : ℕ → ℕ → ℕ → Written
 writeAt n size at = cond (room n size at) (To (at + length (numeral n))) NoRoom
 
 -- what the buffer then holds: the numeral at the place and all else as before; where there is no room, all as before
-unfoldable pub writtenAt : ℕ → List ℕ → ℕ → List ℕ
-writtenAt n buf at =
-    cond (room n (length buf) at) (take at buf ++ numeral n ++ drop (at + length (numeral n)) buf) buf
+unfoldable pub withNumeral : ℕ → List ℕ → ℕ → List ℕ
+withNumeral n buf at = cond (room n (length buf) at) (over at (numeral n) buf) buf

@@ -2,13 +2,14 @@
 -- canonical are the numeral of their value.
 use Prim.Native.Nat.{ℕ, zero, suc, _+_, _*_, _-_, _/_, _%_, _^_, _≤_, _<_}
 use native.Mathlib.Omega.{arith}
-use native.Mathlib.Nat.{le-refl, pow-suc, one-le-pow}
+use native.Mathlib.Nat.{le-refl, pow-suc}
 use mathlib.Core.Path.{_≡_, refl, sym, _∙_, ap}
 use mathlib.Core.List.{List, [], _∷_, _++_, append-nil, append-assoc}
-use mathlib.Core.Bool.{Bool, true, false, and-eq-true-iff, false≢true}
+use mathlib.Core.Bool.{Bool, true, false, false≢true}
 use lib.ListN.{length, drop, length-append}
-use lib.Dec.{ltb, leb, eqb}
-use borrow.Author.Tests.{lt-ltb, le-ltb, le-leb, ne-eqb, ltb-true, ltb-false, leb-true, eqb-false, not-true}
+use lib.Dec.{ltb, eqb}
+use borrow.Author.Tests.{lt-ltb, le-ltb, le-leb, ne-eqb, ltb-true, ltb-false, eqb-false, not-true}
+use Rattle.lists.specs.All.{between-bounds}
 use Rattle.decimal.specs.Numeral.{isDigit, front, valueFrom, canonical, numeral, numeralBy}
 
 -- numeral
@@ -53,11 +54,6 @@ module _ (P : ℕ → Type 0) (small : (n : ℕ) → n < 10 → P n) (step : (n 
 
 isDigit-byte : (d : ℕ) → d < 10 → isDigit (48 + d) ≡ true
 isDigit-byte d h = simp (le-leb 48 (48 + d) (omega arith), le-leb (48 + d) 57 (omega arith))
-
-isDigit-range : (b : ℕ) → isDigit b ≡ true → (48 ≤ b) × (b ≤ 57)
-isDigit-range b e =
-    let both = and-eq-true-iff (leb 48 b) (leb b 57) .0 e in
-    (leb-true 48 b (both .0), leb-true b 57 (both .1))
 
 -- front
 
@@ -147,9 +143,6 @@ value-numeral =
     numeral-induction (λ (n : ℕ). valueFrom 0 (numeral n) ≡ n) (λ n h. rw (numeral-small n h) (omega arith))
     (λ n h ih. rw (numeral-step n h, valueFrom-append 0 (numeral (n / 10)) ((48 + n % 10) ∷ [])) (omega arith))
 
-pub numeral-injective : (m n : ℕ) → numeral m ≡ numeral n → m ≡ n
-numeral-injective m n h = cc (value-numeral m, value-numeral n)
-
 -- canonical
 
 canonical-append : (s t : List ℕ) → canonical s ≡ true → 1 ≤ valueFrom 0 s → canonical (s ++ t) ≡ true
@@ -171,7 +164,7 @@ unfolding valueFrom
 numeral-valueFrom v [] p h = sym (append-nil (numeral v))
 numeral-valueFrom v (b ∷ s) p h =
     let d : Digits b s = front-cons b s h in
-    let r = isDigit-range b (d .digit) in
+    let r = between-bounds 48 57 b (d .digit) in
     let w : ℕ = v * 10 + (b - 48) in
     let q : w / 10 ≡ v = omega (arith, r) in
     let m : 48 + w % 10 ≡ b = omega (arith, r) in
@@ -184,12 +177,12 @@ unfolding canonical valueFrom
 numeral-canonical [] h c = absurd (false≢true c)
 numeral-canonical (b ∷ []) h c =
     let d : Digits b [] = front-cons b [] h in
-    let r = isDigit-range b (d .digit) in
+    let r = between-bounds 48 57 b (d .digit) in
     let m : 48 + (0 * 10 + (b - 48)) ≡ b = omega (arith, r) in
     numeral-small (0 * 10 + (b - 48)) (omega (arith, r)) ∙ rw m
 numeral-canonical (b ∷ x ∷ s) h c =
     let d : Digits b (x ∷ s) = front-cons b (x ∷ s) h in
-    let r = isDigit-range b (d .digit) in
+    let r = between-bounds 48 57 b (d .digit) in
     let m : 48 + (0 * 10 + (b - 48)) ≡ b = omega (arith, r) in
     let p = eqb-false b 48 (not-true (eqb b 48) c) in
     numeral-valueFrom (0 * 10 + (b - 48)) (x ∷ s) (omega (arith, r, p)) (d .rest)
@@ -202,7 +195,7 @@ numeral-nonempty =
     numeral-induction (λ (n : ℕ). 1 ≤ length (numeral n)) (λ n h. rw (numeral-small n h) (omega arith))
     (λ n h ih. rw (numeral-step n h, length-append) (omega arith))
 
--- a number has at most k digits where it is below 10 ^ k, and more than k where it is not
+-- a number has at most k digits where it is below 10 ^ k
 pub numeral-length-le : (n k : ℕ) → 1 ≤ k → n < 10 ^ k → length (numeral n) ≤ k
 numeral-length-le =
     numeral-induction (λ (n : ℕ). (k : ℕ) → 1 ≤ k → n < 10 ^ k → length (numeral n) ≤ k)
@@ -212,18 +205,6 @@ numeral-length-le =
       | suc zero ↦ λ p q. absurd (omega arith)
       | suc (suc k) ↦ λ p q.
           rw (numeral-step n h, length-append) (omega (arith, ih (suc k) (omega arith) (omega (arith, pow-suc 10 (suc k)))))
-    ])
-
-pub numeral-length-gt : (n k : ℕ) → 10 ^ k ≤ n → k < length (numeral n)
-numeral-length-gt =
-    numeral-induction (λ (n : ℕ). (k : ℕ) → 10 ^ k ≤ n → k < length (numeral n))
-    (λ n h. elim [
-      | zero ↦ λ p. numeral-nonempty n
-      | suc k ↦ λ p. absurd (omega (arith, pow-suc 10 k, one-le-pow k 10 (omega arith)))
-    ])
-    (λ n h ih. elim [
-      | zero ↦ λ p. numeral-nonempty n
-      | suc k ↦ λ p. rw (numeral-step n h, length-append) (omega (arith, ih k (omega (arith, pow-suc 10 k))))
     ])
 
 pub numeral-length-u32 : (n : ℕ) → n < 2 ^ 32 → length (numeral n) ≤ 10

@@ -2,7 +2,7 @@
 ghost use Prim.Native.Nat.{_-_, _≤_};
 ghost use mathlib.Core.Path.{_≡_};
 ghost use lib.ListN.{length};
-ghost use Rattle.decimal.specs.Numeral.{numeral, readAt, writeAt, writtenAt};
+ghost use Rattle.decimal.specs.Numeral.{numeral, readAt, writeAt, withNumeral};
 ghost use Rattle.decimal.specs.Digit.{DigitAt};
 
 // What reading finds: a number and the place after its last digit, or no numeral of at most the bound.
@@ -79,7 +79,7 @@ pub fn digits(n: u32) -> usize
 
 // Writes the numeral of `n` at `at` and answers the place after it; where the buffer has no room for all of it, writes nothing.
 pub fn write(n: u32, out: &mut [u8], at: usize) -> Written
-    ensures { λ r. ⌜ (r ≡ writeAt n (length (now (out .entry))) at) × (now (out .exit) ≡ writtenAt n (now (out .entry)) at) ⌝ }
+    ensures { λ r. ⌜ (r ≡ writeAt n (length (now (out .entry))) at) × (now (out .exit) ≡ withNumeral n (now (out .entry)) at) ⌝ }
 {
     let count = digits(n);
     if out.len() < at {
@@ -95,7 +95,7 @@ pub fn write(n: u32, out: &mut [u8], at: usize) -> Written
 // Puts the digits of `n` right before `end`, the last one first.
 fn fill(n: u32, out: &mut [u8], end: usize)
     requires { ⌜ (length (numeral n) ≤ end) × (end ≤ length (now out)) ⌝ }
-    ensures { λ _. ⌜ now (out .exit) ≡ writtenAt n (now (out .entry)) (end - length (numeral n)) ⌝ }
+    ensures { λ _. ⌜ now (out .exit) ≡ withNumeral n (now (out .entry)) (end - length (numeral n)) ⌝ }
 {
     let mut i = end - 1;
     let mut rest = n;

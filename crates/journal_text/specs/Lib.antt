@@ -1,4 +1,4 @@
--- Journal text: the line of an entry, the text of a list of entries, what reading and writing answer, and the round trips.
+-- Journal text: the line of an entry, the text of a list of entries, what reading and writing answer, the round trips, and bytes put at a place of the output.
 pub mod Text
 pub mod Scan
 pub mod LineLaws
@@ -7,3 +7,4 @@ pub mod Answers
 pub mod AnswerLaws
 pub mod Laws
 pub mod RoundTrip
+pub mod Put

@@ -1,9 +1,9 @@
 -- A test of every item of a list.
-use Prim.Native.Nat.{ℕ, zero, suc}
+use Prim.Native.Nat.{ℕ, zero, suc, _≤_}
 use mathlib.Core.Path.{_≡_, refl}
 use mathlib.Core.List.{List, [], _∷_, _++_}
 use mathlib.Core.Bool.{Bool, true, false, _&&_, _||_, and-assoc, and-eq-true-iff, false≢true}
-use borrow.Author.Tests.{eqb-true}
+use borrow.Author.Tests.{leb-true, eqb-true}
 use lib.ListN.{take, drop}
 use lib.Dec.{leb, eqb, leb·zero}
 use Rattle.lists.specs.Cases.{and-left, and-right}
@@ -17,6 +17,9 @@ all p (x ∷ xs) = p x && all p xs
 -- a number of low to high
 abbrev pub between : ℕ → ℕ → ℕ → Bool
 between low high x = leb low x && leb x high
+
+pub between-bounds : (low high x : ℕ) → between low high x ≡ true → (low ≤ x) × (x ≤ high)
+between-bounds low high x e = (leb-true low x (and-left (leb low x) _ e), leb-true x high (and-right (leb low x) _ e))
 
 -- an index of 1 to l; an index of at most l
 abbrev pub queuedIn : ℕ → ℕ → Bool

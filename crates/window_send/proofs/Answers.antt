@@ -8,14 +8,15 @@ use borrow.Author.Tests.{le-leb, lt-leb, lt-ltb, le-ltb, eq-eqb, ne-eqb, not-fal
 use lib.ListN.{length}
 use Rattle.journal.specs.Entry.{entriesOf}
 use Rattle.lists.specs.Cases.{and-left}
+use Rattle.lists.specs.Over.{over, over-front}
 use Rattle.rules.specs.View.{WindowView}
 use Rattle.rules.specs.Shape.{isEmpty, lengthsFit}
 use Rattle.rules.specs.Window.{check, isSuspended, batchOf, launched, sendAt}
 use Rattle.rules.specs.Rules.{batchNumbers}
 use Rattle.rules.specs.Offers.{check-yes, check-no, check-passed, sendAt-refuses, sendAt-can, SentOut, sendAt-done}
 use Rattle.window_send.specs.Sending.{sendGuard, sendTurn, turnOutput}
-use Rattle.window_send.specs.Shares.{caughtOf, queuedOf, parted, caughtOf-held, queuedOf-held, shares-limit, batchOf-parted, batchOf-length}
-use Rattle.window_send.specs.Overwritten.{overwritten, overwritten-front}
+use Rattle.window_send.specs.Shares.{caughtOf, queuedOf, parted}
+use Rattle.window_send.specs.Shares.{caughtOf-held, queuedOf-held, shares-limit, batchOf-parted, batchOf-length}
 use Rattle.window.proofs.Empty.{isEmpty-yes, isEmpty-no}
 
 -- ------------------------------------------------------------------------
@@ -114,11 +115,11 @@ sendTurn-refuses limit size v = by (not (sendGuard limit v))
 -- the output of either
 module _ (ns : List ℕ) (limit : ℕ) (out : List ℕ) (v : WindowView) where
   pub turnOutput-done : sendTurn limit (length out) v .answer ≡ 0 →
-      overwritten 0 (batchNumbers (entriesOf ns) (parted (caughtOf limit v) (queuedOf limit v) v .indices)) out ≡ turnOutput ns limit out v
+      over 0 (batchNumbers (entriesOf ns) (parted (caughtOf limit v) (queuedOf limit v) v .indices)) out ≡ turnOutput ns limit out v
   unfolding turnOutput
   turnOutput-done e =
       let s = sendTurn-done limit (length out) v e in
-      rw (eq-eqb _ 0 e, s .batch) (overwritten-front (batchNumbers (entriesOf ns) (parted (caughtOf limit v) (queuedOf limit v) v .indices)) out)
+      rw (eq-eqb _ 0 e, s .batch) (over-front (batchNumbers (entriesOf ns) (parted (caughtOf limit v) (queuedOf limit v) v .indices)) out)
 
   pub turnOutput-refused : (sendTurn limit (length out) v .answer ≡ 0 → ⊥) → out ≡ turnOutput ns limit out v
   unfolding turnOutput

@@ -1,4 +1,4 @@
--- Send at one window: its rule by itself, the batch as code makes it, and numbers stored in the output.
+-- Send at one window: its rule by itself, the batch as code makes it, and a batch's numbers in the output.
 pub mod Sending
 pub mod Shares
-pub mod Overwritten
+pub mod BatchNumbers

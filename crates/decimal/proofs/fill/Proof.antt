@@ -4,16 +4,16 @@ use Prim.Native.Nat.{_+_, _-_, _/_, _<_}
 use mathlib.Core.Path.{_≡_, refl, _∙_}
 use native.Mathlib.Omega.{arith}
 use lib.ListN.{length, length-set}
-use Rattle.decimal.specs.Numeral.{numeral, writtenAt}
+use Rattle.decimal.specs.Numeral.{numeral, withNumeral}
 use Rattle.decimal.specs.Value.{numeral-nonempty}
-use Rattle.decimal.proofs.Writing.{numeral-length-step, written-last, written-step}
+use Rattle.decimal.proofs.Writing.{numeral-length-step, withNumeral-last, withNumeral-step}
 use Rattle.decimal.proofs.fill.Statement.{statement}
 use Rattle.decimal.proofs.fill.Tie as tie
 
 abbrev Inv-loop : tie.InvT-loop
 Inv-loop n out₀ end i₀ rest₀ out i rest =
     (length out ≡ length out₀) × (i < length out) × (i + 1 ≡ end - length (numeral n) + length (numeral rest))
-    × (writtenAt rest out (end - length (numeral n)) ≡ writtenAt n out₀ (end - length (numeral n)))
+    × (withNumeral rest out (end - length (numeral n)) ≡ withNumeral n out₀ (end - length (numeral n)))
 
 abbrev μ-loop : tie.MeasureT-loop
 μ-loop n out₀ end i₀ rest₀ out i rest = rest
@@ -52,7 +52,7 @@ loop-again c =
       omega arith,
       omega arith,
       omega arith,
-      written-step _ _ _ _ (v .inv .2) (v .inv .1) (c .loop-test .taken) ∙ v .inv .3,
+      withNumeral-step _ _ _ _ (v .inv .2) (v .inv .1) (c .loop-test .taken) ∙ v .inv .3,
     )
 
 cast-out-2 : tie.Need-cast-out-2 Inv-loop μ-loop
@@ -70,7 +70,7 @@ same-length c = simp length-set (c .before .loop .inv .0)
 returns : tie.Need-returns Inv-loop μ-loop
 returns c =
     let v = c .before .loop in
-    written-last _ _ _ _ (v .inv .2) (v .inv .1) (c .loop-test .left) ∙ v .inv .3
+    withNumeral-last _ _ _ _ (v .inv .2) (v .inv .1) (c .loop-test .left) ∙ v .inv .3
 
 pub fill-spec : {M : Type 1} → statement M
 fill-spec =

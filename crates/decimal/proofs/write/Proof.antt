@@ -4,8 +4,8 @@ use mathlib.Core.Path.{sym, _∙_, ap}
 use native.Mathlib.Omega.{arith}
 use borrow.Author.Needs.{needs}
 use denote.Ref.{now}
-use Rattle.decimal.specs.Numeral.{writtenAt}
-use Rattle.decimal.specs.Laws.{write-room, write-full, written-full}
+use Rattle.decimal.specs.Numeral.{withNumeral}
+use Rattle.decimal.specs.Laws.{write-room, write-full, withNumeral-full}
 use Rattle.decimal.specs.declared.Written.the-variants.{To}
 use Rattle.decimal.proofs.write.Statement.{statement}
 use Rattle.decimal.proofs.write.Tie as tie
@@ -16,7 +16,7 @@ digits-requires c κs = search needs
 returns : tie.Need-returns
 returns c =
     let a = c .before .before .before .args in
-    (sym (write-full _ _ _ (omega arith)), sym (written-full (a .n) (now (a .out)) (a .at) (omega arith)))
+    (sym (write-full _ _ _ (omega arith)), sym (withNumeral-full (a .n) (now (a .out)) (a .at) (omega arith)))
 
 sub-if2 : tie.Need-sub-if2
 sub-if2 c = search needs
@@ -24,7 +24,7 @@ sub-if2 c = search needs
 returns-2 : tie.Need-returns-2
 returns-2 c =
     let a = c .before .before .before .before .args in
-    (sym (write-full _ _ _ (omega arith)), sym (written-full (a .n) (now (a .out)) (a .at) (omega arith)))
+    (sym (write-full _ _ _ (omega arith)), sym (withNumeral-full (a .n) (now (a .out)) (a .at) (omega arith)))
 
 add-fill : tie.Need-add-fill
 add-fill c = search needs
@@ -40,10 +40,12 @@ same-length c = search needs
 
 returns-3 : tie.Need-returns-3
 returns-3 c =
-    let a = c .before .before .before .before .before .before .before .before .args in
-    let l = c .before .before .before .before .before .before .digits .ensures in (
+    let filled = c .before .before in
+    let counted = filled .before .before .before .before in
+    let a = counted .before .before .args in
+    let l = counted .digits .ensures in (
       ap (λ (k : ℕ). To (a .at + k)) l ∙ sym (write-room _ _ _ (omega arith)),
-      c .before .before .fill .ensures ∙ ap (writtenAt (a .n) (now (a .out))) (omega (arith, l)),
+      filled .fill .ensures ∙ ap (withNumeral (a .n) (now (a .out))) (omega (arith, l)),
     )
 
 pub write-spec : {M : Type 1} → statement M
