@@ -20,7 +20,7 @@ use Rattle.rules.specs.Window.{isSuspended, requeue, batchOf}
 use Rattle.rules.specs.Rules.{windowAt, ackRule}
 use Rattle.delivery.specs.World.{Sent, Ack, Side, World, sideAt, numbersIn, playerIn, Step, main, catch, written, send, ack, step}
 use Rattle.delivery.specs.World as W
-use Rattle.delivery.specs.SameLaws.{SideIs, WorldIs, sameWorld-equal}
+use Rattle.delivery.specs.SameLaws.{seen, WorldIs, sameWorld-equal}
 use Rattle.delivery.specs.Statement.{isWork, NoneCan}
 use Rattle.delivery.specs.Invariant.{Unacknowledged, Queues, Inv, Reached, lastOf, backIndices, lineEntries, endsOf}
 use Rattle.delivery.specs.Queued.{isEmpty-append}
@@ -93,11 +93,10 @@ module _ (wd : World) (r : Reached wd) (none : NoneCan wd) where
   no-work : (w : ℕ) (s : Step) → isWork s ≡ true → WorksAt s wd w → ⊥
   no-work w s is k =
       let l : ℕ = length (wd .journal) in
-      let same : SideIs (sideAt w wd) (sideAt w (step s wd .world)) = sameWorld-equal wd (step s wd .world) (none s is) .sides w in
+      let same : seen (sideAt w wd) ≡ seen (sideAt w (step s wd .world)) = sameWorld-equal wd (step s wd .world) (none s is) .sides w in
       let here : sideAt w (step s wd .world) ≡ k .after = ap (sideAt w) (k .world) ∙ withSide-here w (k .after) wd (k .within) in
-      let equal : sideWork l (wd .current) (k .after) ≡ sideWork l (wd .current) (sideAt w wd)
-      = ap (sideWork l (wd .current)) (sym here)
-      ∙ ap₂ (λ v q. viewWork l (wd .current) v + (l - q .last .0)) (sym (same .view)) (sym (same .record′)) in
+      let equal : sideWork l (wd .current) (sideAt w wd) ≡ sideWork l (wd .current) (k .after)
+      = ap (λ x. viewWork l (wd .current) (x .0) + (l - x .1 .0 .last .0)) same ∙ ap (sideWork l (wd .current)) here in
       omega (arith, worked-lowers (r .each w (k .within)) (read-in wd r) (wd .limit) (k .after) (few-in wd r) (k .work))
 
   module _ (w : ℕ) (h : w < length (wd .sides)) (here : isSuspended (sideAt w wd .view .condition) ≡ false) where
