@@ -13,7 +13,7 @@ use Rattle.delivery.specs.World.{Side, World, noSide, sideAt, Step, drop
 use Rattle.delivery.specs.Same.{sameWorld}
 use Rattle.delivery.specs.SameLaws.{sameWorld-itself}
 use Rattle.delivery.specs.Statement.{begins, changes}
-use Rattle.delivery.specs.Invariant.{Queues, Inv, Reached}
+use Rattle.delivery.specs.Invariant.{QueuesOf, Inv, Reached}
 use Rattle.delivery.specs.Measure.{ahead, busyOf, sideWork, main-work, worked-lowers}
 use Rattle.delivery.specs.Effects.{Work, stays, mains, works, Facts, working, dropping, joining, starting, appending}
 use Rattle.delivery.specs.SteppedAll.{step-facts}
@@ -58,8 +58,7 @@ mostWork wd = length (wd .journal) * (1 + 5 * length (wd .sides))
 side-bound : {j : List Entry} {c w : ℕ} {p : Side} → Inv j c w p → c ≤ length j → sideWork (length j) c p ≤ 5 * length j
 side-bound {j} {c} {w} {p} inv read = omega (arith, condition (p .view .condition) (inv .queues), line (p .view .busy) (inv .busySent))
   where
-    condition : (s : Condition) → Queues j c w (p .view .acked) (p .view .sent) (p .view .normalQueue) (p .view .catchQueue) s →
-        ahead (length j) c s ≤ length j
+    condition : (s : Condition) → QueuesOf j c w (p .view) s → ahead (length j) c s ≤ length j
     condition normal is = omega arith
     condition (fetching n end) is = omega (arith, is .behind, is .order, is .read)
     condition (completed end) is = omega arith

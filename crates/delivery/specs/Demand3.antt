@@ -1,7 +1,7 @@
 -- Demand 3 holds.
 use Prim.Native.Nat.{ℕ, _+_, _*_, _≤_, _<_}
 use mathlib.Core.Path.{_≡_, refl, sym, ap, subst, subst⁻¹, _∙_}
-use mathlib.Core.List.{List, [], _∷_, _++_, map, map-append}
+use mathlib.Core.List.{List, [], _∷_, _++_, map, map-append, map-map, map-id}
 use mathlib.Core.Bool.{true, not}
 use native.Mathlib.Omega.{arith}
 use native.Mathlib.Nat.{le-refl}
@@ -16,7 +16,7 @@ use Rattle.record.specs.Laws.{takeAll-nil}
 use Rattle.rules.specs.View.{WindowView, PlayerView, noWindow}
 use Rattle.rules.specs.Shape.{shape}
 use Rattle.rules.specs.Window.{isSuspended, started}
-use Rattle.rules.specs.Rules.{windowAt, least}
+use Rattle.rules.specs.Rules.{Outcome, windowAt, least}
 use Rattle.rules.specs.Offers.{StartDone, startRule-done, startNext-at, least-some, start-shaped}
 use Rattle.delivery.specs.World.{Side, World, sideAt, playerIn, newSide, opened, Step, run}
 use Rattle.delivery.specs.Statement.{changes, Leading, Delivers, firstStart, Demand3}
@@ -56,64 +56,56 @@ new-inv j w =
     })
     refl refl refl refl (record { ahead = omega arith; normalHas = holds-none (le-refl 0) })
 
-views-new : (vs : List WindowView) → map (λ p. p .view) (map newSide vs) ≡ vs
-views-new [] = refl
-views-new (v ∷ vs) = ap (λ l. v ∷ l) (views-new vs)
-
 module _ (before : PlayerView) (j : List Entry) (count limit : ℕ) (done : firstStart before j count limit .answer ≡ 0) where
-  start-done : StartDone (numbersOf j) count limit (replicate count 0) (firstStart before j count limit)
+  -- the first Start
+  abbrev first : Outcome
+  first = firstStart before j count limit
+
+  start-done : StartDone (numbersOf j) count limit (replicate count 0) first
   start-done = startRule-done (numbersOf j) count limit (replicate count 0) before done
 
   reports-zero : (w : ℕ) → w < length (replicate {A = ℕ} count 0) → _≡_ {A = ℕ} (getD (replicate count 0) w 0) 0
   reports-zero w h = getD-replicate count w 0 0 (omega (arith, length-replicate {A = ℕ} count 0))
 
-  opened-count : length (opened j (firstStart before j count limit) .sides) ≡ count
+  opened-count : length (opened j first .sides) ≡ count
   unfolding opened
   opened-count =
-      length-map (firstStart before j count limit .next .windows) newSide
+      length-map (first .next .windows) newSide
       ∙ ap (λ q. length (q .windows)) (start-done .next)
       ∙ length-map (replicate count 0) started
       ∙ length-replicate count 0
 
-  opened-current : opened j (firstStart before j count limit) .current ≡ 0
+  opened-current : opened j first .current ≡ 0
   unfolding opened
   opened-current =
       let low : least (replicate count 0) ≤ 0 = least-some 0 (replicate count 0) (λ w h. omega (arith, reports-zero w h)) in
       ap (λ q. q .current) (start-done .next) ∙ (let z : least (replicate count 0) ≡ 0 = omega arith in z)
 
-  opened-side : (w : ℕ) → w < count → sideAt w (opened j (firstStart before j count limit)) ≡ newSide (started 0)
+  opened-side : (w : ℕ) → w < count → sideAt w (opened j first) ≡ newSide (started 0)
   unfolding opened
   opened-side w h =
       let k : w < length (replicate {A = ℕ} count 0) = omega (arith, length-replicate {A = ℕ} count 0) in
-      List·getD-map newSide (firstStart before j count limit .next .windows) w noWindow
+      List·getD-map newSide (first .next .windows) w noWindow
       ∙ ap newSide (ap (windowAt w) (start-done .next) ∙ startNext-at limit (replicate count 0) w k ∙ ap started (reports-zero w k))
 
-  opened-shaped : shape (numbersOf j) (playerIn (opened j (firstStart before j count limit))) ≡ true
+  opened-shaped : shape (numbersOf j) (playerIn (opened j first)) ≡ true
   unfolding opened
   opened-shaped =
-      ap (λ vs. shape (numbersOf j) (record {
-        limit = firstStart before j count limit .next .limit;
-        current = firstStart before j count limit .next .current;
-        windows = vs;
-      })) (views-new (firstStart before j count limit .next .windows))
+      ap (λ vs. shape (numbersOf j) (record { limit = first .next .limit; current = first .next .current; windows = vs }))
+      (map-map (λ p. p .view) newSide (first .next .windows) ∙ map-id (first .next .windows))
       ∙ start-shaped (numbersOf j) count limit (replicate count 0) before done
 
-  opened-journal : opened j (firstStart before j count limit) .journal ≡ j
+  pub opened-reached : Reached (opened j first)
   unfolding opened
-  opened-journal = refl
-
-  pub opened-reached : Reached (opened j (firstStart before j count limit))
   opened-reached = record {
-    inShape = subst⁻¹ (λ x. shape (numbersOf x) (playerIn (opened j (firstStart before j count limit))) ≡ true) opened-journal opened-shaped;
+    inShape = opened-shaped;
     each = λ w h.
-        subst⁻¹ (λ x. Inv x (opened j (firstStart before j count limit) .current) w (sideAt w (opened j (firstStart before j count limit)))) opened-journal
-        (subst⁻¹ (λ c. Inv j c w (sideAt w (opened j (firstStart before j count limit)))) opened-current
-        (subst⁻¹ (Inv j 0 w) (opened-side w (omega (arith, opened-count))) (new-inv j w)));
+        subst⁻¹ (λ c. Inv j c w (sideAt w (opened j first))) opened-current (subst⁻¹ (Inv j 0 w) (opened-side w (omega (arith, opened-count))) (new-inv j w));
   }
 
-  delivers : (steps : List Step) → Delivers count (opened j (firstStart before j count limit)) steps
+  delivers : (steps : List Step) → Delivers count (opened j first) steps
   delivers steps =
-      let wd : World = opened j (firstStart before j count limit) in
+      let wd : World = opened j first in
       let reached : Reached (run wd steps) = reached-run wd steps opened-reached in
       let n : length (run wd steps .sides) ≡ count = run-count wd steps opened-reached ∙ opened-count in
       record {

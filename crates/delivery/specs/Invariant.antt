@@ -12,7 +12,7 @@ use Rattle.lists.specs.Rising.{Rising}
 use Rattle.record.specs.declared.Record.{Record}
 use Rattle.record.specs.Record.{newRecord, takeAll}
 use Rattle.rules.specs.declared.Term.{Term}
-use Rattle.rules.specs.View.{Condition, normal, fetching, completed, suspended}
+use Rattle.rules.specs.View.{Condition, normal, fetching, completed, suspended, WindowView}
 use Rattle.rules.specs.Shape.{isEmpty, shape}
 use Rattle.rules.specs.Window.{isSuspended, isReport}
 use Rattle.delivery.specs.World.{Sent, Ack, Side, World, sideAt, numbersIn, playerIn}
@@ -64,8 +64,8 @@ unfoldable pub endsOf : List Sent → List ℕ
 endsOf [] = []
 endsOf (s ∷ l) = cond (s .ends) (s .placed .index ∷ endsOf l) (endsOf l)
 
--- The acks on the way back rise from the acknowledged index to last. The unacknowledged batches are these acks, then the batches on the line;
--- a Suspended window (`away`) has none.
+-- The acks on the way back rise from the acknowledged index to last. The unacknowledged batches are these acks, then the batches on the
+-- line; a Suspended window (`away`) has none.
 pub record Unacknowledged (away : Bool) (t : Term) (acked last : ℕ) (batches : List ℕ) (line : List Sent) (back : List Ack) : Type 0 where
   pub ackedLast : acked ≤ last
   pub backTerms : BackTerms t back
@@ -113,6 +113,10 @@ Queues j current w acked sent n q (fetching next end) = FetchingQueues j current
 Queues j current w acked sent n q (completed end) = CompletedQueues j current w sent n q end
 Queues j current w acked sent n q suspended = NoQueues n q
 
+-- the same of a window whose condition is s
+abbrev pub QueuesOf : List Entry → (current w : ℕ) → WindowView → Condition → Type 0
+QueuesOf j current w v s = Queues j current w (v .acked) (v .sent) (v .normalQueue) (v .catchQueue) s
+
 -- ------------------------------------------------------------------------
 -- The whole
 
@@ -122,8 +126,7 @@ pub record Inv (j : List Entry) (current w : ℕ) (p : Side) : Type 0 where
   pub flight : InFlight j w (lastOf p) (p .view .sent) (p .view .term) (p .line)
   pub unacked :
       Unacknowledged (isSuspended (p .view .condition)) (p .view .term) (p .view .acked) (lastOf p) (p .view .batches) (p .line) (p .back)
-  pub queues :
-      Queues j current w (p .view .acked) (p .view .sent) (p .view .normalQueue) (p .view .catchQueue) (p .view .condition)
+  pub queues : QueuesOf j current w (p .view) (p .view .condition)
   pub busySent : p .view .busy ≡ true → 1 ≤ p .view .sent
 
 -- a reachable world: in shape, and each window's side as above

@@ -18,7 +18,7 @@ use Rattle.lists.specs.Rising.{Rising}
 use Rattle.rules.specs.View.{Condition, normal, fetching, completed, suspended, WindowView}
 use Rattle.rules.specs.Window.{isSuspended, isReport, dropped, joined, started}
 use Rattle.delivery.specs.World.{Side, withView, cleared}
-use Rattle.delivery.specs.Invariant.{Taken, InFlight, Queues, NoQueues, Inv, lastOf, endsOf}
+use Rattle.delivery.specs.Invariant.{Taken, InFlight, Queues, QueuesOf, Inv, lastOf, endsOf}
 use Rattle.delivery.specs.Queued.{holds-none, holds-journal}
 
 -- ------------------------------------------------------------------------
@@ -44,7 +44,7 @@ keep-drop inv = record {
 
 -- a window that begins anew from what it has taken
 pub begun : {j : List Entry} {c w : ℕ} (p : Side) (v : WindowView) → Taken j w (p .record′) (p .taken) → v .acked ≡ lastOf p → v .sent ≡ lastOf p →
-    v .busy ≡ false → v .batches ≡ [] → Queues j c w (v .acked) (v .sent) (v .normalQueue) (v .catchQueue) (v .condition) →
+    v .busy ≡ false → v .batches ≡ [] → QueuesOf j c w v (v .condition) →
     Inv j c w (cleared (withView v p))
 unfolding endsOf
 begun {j} {c} {w} p v taken acked sent free none queues = record {
@@ -68,7 +68,7 @@ pub keep-join : {j : List Entry} {c w : ℕ} {p : Side} → Inv j c w p → isSu
 keep-join {j} {c} {w} {p} inv away =
     begun p (joined c (lastOf p) (p .view)) (inv .taken) refl refl refl (inv .unacked .noBatches away) (by (p .view .condition) away (inv .queues))
   where
-    by : (s : Condition) → isSuspended s ≡ true → Queues j c w (p .view .acked) (p .view .sent) (p .view .normalQueue) (p .view .catchQueue) s →
+    by : (s : Condition) → isSuspended s ≡ true → QueuesOf j c w (p .view) s →
         Queues j c w (lastOf p) (lastOf p) (p .view .normalQueue) (p .view .catchQueue) (joined c (lastOf p) (p .view) .condition)
     by normal away′ is = absurd (false≢true away′)
     by (fetching next end) away′ is = absurd (false≢true away′)

@@ -18,7 +18,7 @@ use Rattle.rules.specs.View.{Condition, normal, fetching, completed, suspended}
 use Rattle.rules.specs.Window.{isSuspended, isReport, freed, struck, acknowledged}
 use Rattle.rules.specs.Offers.{struck-front, AckTaken}
 use Rattle.delivery.specs.World.{Sent, Ack, Side, withView, withLines, takeFront}
-use Rattle.delivery.specs.Invariant.{Taken, InFlight, Unacknowledged, Queues, Inv, lastOf, backIndices, lineEntries, endsOf, BackTerms}
+use Rattle.delivery.specs.Invariant.{Taken, InFlight, Unacknowledged, Queues, QueuesOf, Inv, lastOf, backIndices, lineEntries, endsOf, BackTerms}
 use Rattle.delivery.specs.Lines.{backTerms-append}
 
 -- ------------------------------------------------------------------------
@@ -60,7 +60,7 @@ keep-ack {j} {c} {w} {p} inv a rest e taken = record {
     un : Unacknowledged (isSuspended (p .view .condition)) (p .view .term) (p .view .acked) (lastOf p) (p .view .batches) (p .line) (a ∷ rest)
     un = rw e at (inv .unacked)
 
-    by : (s : Condition) → Queues j c w (p .view .acked) (p .view .sent) (p .view .normalQueue) (p .view .catchQueue) s →
+    by : (s : Condition) → QueuesOf j c w (p .view) s →
         Queues j c w (a .index) (p .view .sent) (p .view .normalQueue) (p .view .catchQueue) s
     by normal is = record { ahead = omega (arith, is .ahead, un .backRises .0); normalHas = is .normalHas }
     by (fetching next end) is = is

@@ -16,7 +16,7 @@ use Rattle.rules.specs.Shape.{isEmpty}
 use Rattle.rules.specs.Window.{isSuspended, requeue}
 use Rattle.rules.specs.Offers.{oneIf}
 use Rattle.delivery.specs.World.{Side, withView}
-use Rattle.delivery.specs.Invariant.{Unacknowledged, Holds, Queues, Inv, lastOf}
+use Rattle.delivery.specs.Invariant.{Holds, Queues, QueuesOf, Inv}
 
 -- ------------------------------------------------------------------------
 -- isEmpty, lastOr
@@ -100,8 +100,7 @@ withQueues n q s p = withView (requeue n q s (p .view)) p
 pub withQueues-same : (p : Side) (s : Condition) → p .view .condition ≡ s → p ≡ withQueues (p .view .normalQueue) (p .view .catchQueue) s p
 withQueues-same p s e = ap (λ s. withQueues (p .view .normalQueue) (p .view .catchQueue) s p) e
 
-pub queues-in : {j : List Entry} {c w : ℕ} {p : Side} → Inv j c w p → (s : Condition) → p .view .condition ≡ s →
-    Queues j c w (p .view .acked) (p .view .sent) (p .view .normalQueue) (p .view .catchQueue) s
+pub queues-in : {j : List Entry} {c w : ℕ} {p : Side} → Inv j c w p → (s : Condition) → p .view .condition ≡ s → QueuesOf j c w (p .view) s
 queues-in inv s e = rw e at (inv .queues)
 
 -- the other parts stay, unless the window becomes Suspended or was
