@@ -1,7 +1,7 @@
 -- Demand 3 holds.
 use Prim.Native.Nat.{ℕ, _+_, _*_, _≤_, _<_}
 use mathlib.Core.Path.{_≡_, refl, sym, ap, subst, subst⁻¹, _∙_}
-use mathlib.Core.List.{List, [], _∷_, _++_, map, map-append, map-map, map-id}
+use mathlib.Core.List.{List, _++_, map, map-append, map-map, map-id}
 use mathlib.Core.Bool.{true, not}
 use native.Mathlib.Omega.{arith}
 use native.Mathlib.Nat.{le-refl}
@@ -13,7 +13,7 @@ use Rattle.journal.specs.Due.{due, due-split, due-empty}
 use Rattle.journal.specs.Own.{own, own-due}
 use Rattle.record.specs.Record.{newRecord, takeAll}
 use Rattle.record.specs.Laws.{takeAll-nil}
-use Rattle.rules.specs.View.{WindowView, PlayerView, noWindow}
+use Rattle.rules.specs.View.{PlayerView, noWindow}
 use Rattle.rules.specs.Shape.{shape}
 use Rattle.rules.specs.Window.{isSuspended, started}
 use Rattle.rules.specs.Rules.{Outcome, windowAt, least}

@@ -3,7 +3,7 @@ use Prim.Native.Nat.{ℕ, zero, suc, _+_, _*_, _-_, _≤_, _<_}
 use mathlib.Core.Path.{_≡_, refl, sym, ap, ap₂, subst⁻¹, _∙_}
 use mathlib.Core.Logic.{⊎-elim}
 use mathlib.Core.List.{List, [], _∷_, _++_, map, append-nil}
-use mathlib.Core.Bool.{true, false, _||_, true≢false, false≢true}
+use mathlib.Core.Bool.{true, false, true≢false, false≢true}
 use native.Mathlib.Omega.{arith}
 use borrow.Author.Tests.{eq-eqb}
 use lib.ListN.{length, take, replicate, length-replicate}
@@ -22,7 +22,7 @@ use Rattle.delivery.specs.World.{Sent, Ack, Side, World, sideAt, numbers
 use Rattle.delivery.specs.World as W
 use Rattle.delivery.specs.SameLaws.{seen, WorldIs, sameWorld-equal}
 use Rattle.delivery.specs.Statement.{isWork, NoneCan}
-use Rattle.delivery.specs.Invariant.{Unacknowledged, Queues, Inv, Reached, lastOf, backIndices, lineEntries, endsOf}
+use Rattle.delivery.specs.Invariant.{Queues, Inv, Reached, lastOf, lineEntries, endsOf}
 use Rattle.delivery.specs.Queued.{isEmpty-append}
 use Rattle.delivery.specs.Measure.{viewWork, sideWork, worked-lowers}
 use Rattle.delivery.specs.Worlds.{count-in, window-in, windows-in, withSide-here}
@@ -130,9 +130,7 @@ module _ (wd : World) (r : Reached wd) (none : NoneCan wd) where
     back-empty : (b : List Ack) → sideAt w wd .back ≡ b → b ≡ []
     back-empty [] e = refl
     back-empty (a ∷ rest) e =
-        let p : Side = sideAt w wd in
-        let un : Unacknowledged (isSuspended (v .condition)) (v .term) (v .acked) (lastOf p) (v .batches) (p .line) (a ∷ rest)
-        = rw e at (r .each w h .unacked) in
+        let un = rw e at (r .each w h .unacked) in
         let out : elem (a .index) (v .batches) ≡ true = rw (un .batchesIs here, eq-eqb (a .index) (a .index) refl) in
         absurd (no-work w (ack w) refl
         (ack-works wd (r .inShape) w a rest h e

@@ -7,7 +7,7 @@ use mathlib.Core.Bool.{Bool, true, false, not, cond}
 use native.Mathlib.Omega.{arith}
 use borrow.Author.Tests.{eq-eqb, ne-eqb}
 use lib.ListN.{length}
-use lib.Dec.{eqb, ltb}
+use lib.Dec.{ltb}
 use Rattle.journal.specs.declared.Entry.{Entry}
 use Rattle.lists.specs.Cases.{le-or-lt}
 use Rattle.lists.specs.Set.{getD-set-each}
@@ -18,7 +18,7 @@ use Rattle.rules.specs.Offers.{ConditionAfter, batchOf-condition, oneIf, mainAt
 use Rattle.rules.specs.Offers as B
 use Rattle.delivery.specs.World.{Side, World, noSide, sideAt, withSide, takeFront, Step, main, catch, written, send, ack, late-ack, drop, join, start, append, Reply, step, run}
 use Rattle.delivery.specs.World as W
-use Rattle.delivery.specs.Statement.{isDone, begins, joinedBy, joinedAfter}
+use Rattle.delivery.specs.Statement.{begins, joinedBy, joinedAfter}
 use Rattle.delivery.specs.Invariant.{Reached, lastOf}
 use Rattle.delivery.specs.Worlds.{withSide-count}
 use Rattle.delivery.specs.Effects.{Worked, Work, stays, mains, works, Facts, working, dropping, joining, starting, appending}

@@ -1,21 +1,21 @@
 -- Catch keeps the invariant of its window: what is fetched joins the catch-up queue, and past the end the two queues meet.
 use Prim.Native.Nat.{ℕ, _+_, _≤_, _<_}
-use mathlib.Core.Path.{_≡_, refl, sym, ap, subst, subst⁻¹, _∙_}
+use mathlib.Core.Path.{_≡_, refl, subst, subst⁻¹}
 use mathlib.Core.Logic.{⊎-elim}
 use mathlib.Core.List.{List, [], _∷_, _++_}
-use mathlib.Core.Bool.{Bool, true, false, cond, and-true}
+use mathlib.Core.Bool.{cond, and-true}
 use native.Mathlib.Omega.{arith}
 use borrow.Author.Tests.{lt-ltb}
 use Rattle.journal.specs.declared.Entry.{Entry}
 use Rattle.journal.specs.Entry.{isFor}
 use Rattle.lists.specs.Cases.{le-or-lt}
 use Rattle.rules.specs.declared.Term.{Term}
-use Rattle.rules.specs.View.{Condition, normal, fetching, completed, WindowView}
+use Rattle.rules.specs.View.{normal, fetching, completed, WindowView}
 use Rattle.rules.specs.Shape.{isEmpty}
 use Rattle.rules.specs.Window.{requeue, wanted, fetched}
 use Rattle.rules.specs.Offers.{oneIf, fetched-more, fetched-last, Caught}
 use Rattle.delivery.specs.World.{Side, withView}
-use Rattle.delivery.specs.Invariant.{Inv, Holds, Queues, FetchingQueues}
+use Rattle.delivery.specs.Invariant.{Inv, Holds, FetchingQueues}
 use Rattle.delivery.specs.Queued.{holds-to, holds-next, holds-append, withQueues, withQueues-same, keep-requeue}
 
 -- a window that is Fetching i u, with its queues named

@@ -1,9 +1,9 @@
 -- Drop, Join, Start and an append keep the invariant.
 use Prim.Native.Nat.{ℕ, _+_, _-_, _≤_, _<_}
-use mathlib.Core.Path.{_≡_, refl, sym, ap, ap₂, subst, subst⁻¹, _∙_}
+use mathlib.Core.Path.{_≡_, refl, sym, ap, ap₂, _∙_}
 use mathlib.Core.Logic.{⊎-elim}
 use mathlib.Core.List.{List, [], _∷_, _++_, map}
-use mathlib.Core.Bool.{true, false, cond, _||_, true≢false, false≢true}
+use mathlib.Core.Bool.{true, false, _||_, true≢false, false≢true}
 use native.Mathlib.Omega.{arith}
 use native.Mathlib.Nat.{le-refl}
 use borrow.Author.Tests.{lt-ltb, le-ltb}
@@ -16,9 +16,9 @@ use Rattle.lists.specs.Cases.{le-or-lt}
 use Rattle.journal.specs.Due.{due, due-empty, due-rising, due-append}
 use Rattle.lists.specs.Rising.{Rising}
 use Rattle.rules.specs.View.{Condition, normal, fetching, completed, suspended, WindowView}
-use Rattle.rules.specs.Window.{isSuspended, isReport, dropped, joined, started}
+use Rattle.rules.specs.Window.{isSuspended, dropped, joined, started}
 use Rattle.delivery.specs.World.{Side, withView, cleared}
-use Rattle.delivery.specs.Invariant.{Taken, InFlight, Queues, QueuesOf, Inv, lastOf, endsOf}
+use Rattle.delivery.specs.Invariant.{Taken, Queues, QueuesOf, Inv, lastOf, endsOf}
 use Rattle.delivery.specs.Queued.{holds-none, holds-journal}
 
 -- ------------------------------------------------------------------------

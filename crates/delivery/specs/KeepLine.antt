@@ -2,7 +2,7 @@
 use Prim.Native.Nat.{ℕ, _≤_, _<_}
 use mathlib.Core.Path.{_≡_, refl, sym, ap, ap₂, subst, subst⁻¹, _∙_}
 use mathlib.Core.List.{List, [], _∷_, _++_, map, map-append, append-assoc}
-use mathlib.Core.Bool.{Bool, true, false, cond, _||_, true≢false, or-true}
+use mathlib.Core.Bool.{Bool, true, false, cond, true≢false, or-true}
 use native.Mathlib.Omega.{arith}
 use lib.ListN.{length, length-map}
 use lib.Dec.{eqb}
@@ -11,11 +11,11 @@ use Rattle.journal.specs.Entry.{Placed, placedAt}
 use Rattle.journal.specs.Due.{due, due-split, due-length, Begins, due-cons}
 use Rattle.lists.specs.Rising.{Rising, rising-append, rising-widen}
 use Rattle.record.specs.declared.Record.{Record}
-use Rattle.record.specs.Record.{newRecord, takeEntry, takeAll}
+use Rattle.record.specs.Record.{newRecord, takeEntry}
 use Rattle.record.specs.Laws.{takeNumbers-placed, takeEntry-answers, takeEntry-last, takeAll-snoc, takeAll-new-count}
 use Rattle.rules.specs.declared.Term.{Term}
 use Rattle.rules.specs.View.{Condition, normal, fetching, completed, suspended}
-use Rattle.rules.specs.Window.{isSuspended, isReport, freed, struck, acknowledged}
+use Rattle.rules.specs.Window.{freed, struck, acknowledged}
 use Rattle.rules.specs.Offers.{struck-front, AckTaken}
 use Rattle.delivery.specs.World.{Sent, Ack, Side, withView, withLines, takeFront}
 use Rattle.delivery.specs.Invariant.{Taken, InFlight, Unacknowledged, Queues, QueuesOf, Inv, lastOf, backIndices, lineEntries, endsOf, BackTerms}
@@ -49,23 +49,22 @@ unacked-struck {line = line} a {rest} here un = record {
 
 pub keep-ack : {j : List Entry} {c w : ℕ} {p : Side} → Inv j c w p → (a : Ack) (rest : List Ack) → p .back ≡ a ∷ rest →
     AckTaken (a .term) (a .index) (p .view) → Inv j c w (withLines (p .line) rest (withView (acknowledged (a .index) (p .view)) p))
-keep-ack {j} {c} {w} {p} inv a rest e taken = record {
-  taken = inv .taken;
-  flight = inv .flight;
-  unacked = unacked-struck a (taken .here) un;
-  queues = by (p .view .condition) (inv .queues);
-  busySent = inv .busySent;
-}
+keep-ack {j} {c} {w} {p} inv a rest e taken =
+    let un = rw e at (inv .unacked) in
+    record {
+      taken = inv .taken;
+      flight = inv .flight;
+      unacked = unacked-struck a (taken .here) un;
+      queues = by (p .view .condition) (omega (arith, un .backRises .0)) (inv .queues);
+      busySent = inv .busySent;
+    }
   where
-    un : Unacknowledged (isSuspended (p .view .condition)) (p .view .term) (p .view .acked) (lastOf p) (p .view .batches) (p .line) (a ∷ rest)
-    un = rw e at (inv .unacked)
-
-    by : (s : Condition) → QueuesOf j c w (p .view) s →
+    by : (s : Condition) → p .view .acked ≤ a .index → QueuesOf j c w (p .view) s →
         Queues j c w (a .index) (p .view .sent) (p .view .normalQueue) (p .view .catchQueue) s
-    by normal is = record { ahead = omega (arith, is .ahead, un .backRises .0); normalHas = is .normalHas }
-    by (fetching next end) is = is
-    by (completed end) is = is
-    by suspended is = is
+    by normal h is = record { ahead = omega (arith, is .ahead); normalHas = is .normalHas }
+    by (fetching next end) h is = is
+    by (completed end) h is = is
+    by suspended h is = is
 
 -- ------------------------------------------------------------------------
 -- Take
@@ -180,8 +179,8 @@ module _ {j : List Entry} {c w : ℕ} {p : Side} (inv : Inv j c w p) (few : leng
 
   pub keep-take : p .line ≡ s ∷ rest → Inv j c w (takeFront s rest p)
   keep-take e =
-      let flight : InFlight j w (lastOf p) (p .view .sent) (p .view .term) (s ∷ rest) = rw e at (inv .flight) in
-      let un : Unacknowledged _ (p .view .term) (p .view .acked) (lastOf p) (p .view .batches) (s ∷ rest) (p .back) = rw e at (inv .unacked) in
+      let flight = rw e at (inv .flight) in
+      let un = rw e at (inv .unacked) in
       let f : Front j w (lastOf p) (p .view .sent) s rest = front flight in
       subst⁻¹ (Inv j c w) take-side
       (record {

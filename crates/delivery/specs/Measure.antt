@@ -1,13 +1,13 @@
 -- A number that falls with every piece of work, and how large it can be. It speaks of indices and of no list.
 use Prim.Native.Nat.{ℕ, suc, _+_, _-_, _≤_, _<_}
-use mathlib.Core.Path.{_≡_, refl, ap, subst, subst⁻¹, _∙_}
+use mathlib.Core.Path.{_≡_, ap}
 use mathlib.Core.Logic.{⊎-elim}
 use mathlib.Core.List.{List, _∷_, _++_}
 use mathlib.Core.Bool.{Bool, true, false, cond}
 use native.Mathlib.Omega.{arith}
 use lib.ListN.{length}
 use Rattle.journal.specs.declared.Entry.{Entry}
-use Rattle.lists.specs.Cases.{true-or-false, le-or-lt}
+use Rattle.lists.specs.Cases.{le-or-lt}
 use Rattle.lists.specs.Rising.{Rising}
 use Rattle.lists.specs.Elem.{lastOr}
 use Rattle.rules.specs.View.{Condition, normal, fetching, completed, suspended, WindowView}
