@@ -9,11 +9,11 @@ use native.Mathlib.Nat.{mul-add, mul-one, mul-suc, mul-assoc, mul-comm}
 use lib.ListN.{length, getD, set}
 use Rattle.journal.specs.declared.Entry.{Entry}
 use Rattle.rules.specs.View.{Condition, normal, fetching, completed, suspended}
-use Rattle.delivery.specs.World.{Side, World, noSide, sideAt, Step, step, run}
+use Rattle.delivery.specs.World.{Side, World, noSide, sideAt, Step, drop, join, start, append, step, run}
 use Rattle.delivery.specs.Same.{sameWorld}
 use Rattle.delivery.specs.SameLaws.{sameWorld-itself}
 use Rattle.delivery.specs.Statement.{begins, changes}
-use Rattle.delivery.specs.Invariant.{Inv, Reached, Queues, FetchingQueues}
+use Rattle.delivery.specs.Invariant.{QueuesOf, Inv, Reached}
 use Rattle.delivery.specs.Measure.{ahead, busyOf, sideWork, main-work, worked-lowers}
 use Rattle.delivery.specs.Effects.{Work, stays, mains, works, Facts, working, dropping, joining, starting, appending}
 use Rattle.delivery.specs.SteppedAll.{step-facts}
@@ -55,21 +55,18 @@ workLeft wd = (length (wd .journal) - wd .current) + total (sideWork (length (wd
 abbrev pub mostWork : World → ℕ
 mostWork wd = length (wd .journal) * (1 + 5 * length (wd .sides))
 
-side-bound : (j : List Entry) (c w : ℕ) (p : Side) → Inv j c w p → c ≤ length j → sideWork (length j) c p ≤ 5 * length j
-side-bound j c w p inv read = omega (arith, condition (p .view .condition) refl, line (p .view .busy) refl)
+side-bound : {j : List Entry} {c w : ℕ} {p : Side} → Inv j c w p → c ≤ length j → sideWork (length j) c p ≤ 5 * length j
+side-bound {j} {c} {w} {p} inv read = omega (arith, condition (p .view .condition) (inv .queues), line (p .view .busy) (inv .busySent))
   where
-    condition : (s : Condition) → p .view .condition ≡ s → ahead (length j) c (p .view .condition) ≤ length j
-    condition normal e = let a : ahead (length j) c (p .view .condition) ≡ length j - c = ap (ahead (length j) c) e in omega arith
-    condition (fetching n end) e =
-        let a : ahead (length j) c (p .view .condition) ≡ length j - n + 1 = ap (ahead (length j) c) e in
-        let k : FetchingQueues j c w (p .view) n end = subst (Queues j c w (p .view)) e (inv .queues) in
-        omega (arith, k .behind, k .order, k .read)
-    condition (completed end) e = let a : ahead (length j) c (p .view .condition) ≡ length j - end = ap (ahead (length j) c) e in omega arith
-    condition suspended e = let a : ahead (length j) c (p .view .condition) ≡ length j - c = ap (ahead (length j) c) e in omega arith
+    condition : (s : Condition) → QueuesOf j c w (p .view) s → ahead (length j) c s ≤ length j
+    condition normal is = omega arith
+    condition (fetching n end) is = omega (arith, is .behind, is .order, is .read)
+    condition (completed end) is = omega arith
+    condition suspended is = omega arith
 
-    line : (b : Bool) → p .view .busy ≡ b → length j - p .view .sent + busyOf (p .view .busy) ≤ length j
-    line true e = let a : busyOf (p .view .busy) ≡ 1 = ap busyOf e in omega (arith, inv .busySent e, inv .sentIn)
-    line false e = let a : busyOf (p .view .busy) ≡ 0 = ap busyOf e in omega arith
+    line : (b : Bool) → (b ≡ true → 1 ≤ p .view .sent) → length j - p .view .sent + busyOf b ≤ length j
+    line true sent = omega (arith, sent refl, inv .flight .sentIn)
+    line false sent = omega arith
 
 pub workLeft-most : (wd : World) → Reached wd → workLeft wd ≤ mostWork wd
 unfolding workLeft
@@ -79,7 +76,7 @@ workLeft-most wd r =
     let most : l * (1 + 5 * n) ≡ l + 5 * l * n = mul-add l 1 (5 * n) ∙ ap₂ (λ a b. a + b) (mul-one l) (sym (mul-assoc l 5 n) ∙ ap (λ x. x * n) (mul-comm l 5)) in
     omega (
       arith,
-      total-bound (sideWork l (wd .current)) (wd .sides) (5 * l) (λ w h. side-bound (wd .journal) (wd .current) w (sideAt w wd) (r .each w h) (read-in wd r)),
+      total-bound (sideWork l (wd .current)) (wd .sides) (5 * l) (λ w h. side-bound (r .each w h) (read-in wd r)),
     )
 
 -- ------------------------------------------------------------------------
@@ -111,7 +108,7 @@ work-lowers wd wd′ r (works w h p′ work e s) =
     (omega (
       arith,
       total-set (sideWork (length (wd .journal)) (wd .current)) (wd .sides) w p′ h,
-      worked-lowers (wd .journal) (wd .current) (wd .limit) w (sideAt w wd) p′ (read-in wd r) (few-in wd r) (r .each w h) work,
+      worked-lowers (r .each w h) (read-in wd r) (wd .limit) p′ (few-in wd r) work,
     )))
 
 -- ------------------------------------------------------------------------
@@ -126,28 +123,37 @@ work-most wd wd′ (works w h p′ work e s) = ap mostWork e ∙ ap (λ n. lengt
 -- ------------------------------------------------------------------------
 -- the count
 
+-- the count after a step
+abbrev countAfter : ℕ → World → Step → ℕ
+countAfter n wd s = cond (begins s (step s wd .reply)) 0 (cond (sameWorld wd (step s wd .world)) n (suc n))
+
+module _ (n : ℕ) (wd : World) (s : Step) (r : Reached wd) (h : n + workLeft wd ≤ mostWork wd) where
+  abbrev Counted : Type 0
+  Counted = countAfter n wd s + workLeft (step s wd .world) ≤ mostWork (step s wd .world)
+
+  anew : (x : Step) → s ≡ x → begins x (step s wd .reply) ≡ true → Counted
+  anew x is begun =
+      simp (ap (λ x. begins x (step s wd .reply)) is ∙ begun) (omega (arith, workLeft-most (step s wd .world) (reached-step wd s r)))
+
+  counted : begins s (step s wd .reply) ≡ false → mostWork (step s wd .world) ≡ mostWork wd → (t : Bool) → sameWorld wd (step s wd .world) ≡ t →
+      (step s wd .world ≡ wd) ⊎ (workLeft (step s wd .world) < workLeft wd) → Counted
+  counted quiet most t same (inl e) =
+      let itself : sameWorld wd (step s wd .world) ≡ true = ap (sameWorld wd) e ∙ sameWorld-itself wd in
+      simp (quiet, itself) (omega (arith, ap workLeft e))
+  counted quiet most true same (inr l) = simp (quiet, same) (omega arith)
+  counted quiet most false same (inr l) = simp (quiet, same) (omega arith)
+
+  by-facts : Facts s wd → Counted
+  by-facts (working quiet work) =
+      counted quiet (work-most wd (step s wd .world) work) (sameWorld wd (step s wd .world)) refl (work-lowers wd (step s wd .world) r work)
+  by-facts (dropping w is done k e sh) = anew (drop w) is done
+  by-facts (joining w is done k away e sh) = anew (join w) is done
+  by-facts (starting b is done m) = anew (start b) is done
+  by-facts (appending e is done k same) = anew (append e) is done
+
 -- the count so far and the work left are together at most L × (1 + 5 × W)
 pub changes-bound : (n : ℕ) (wd : World) (ss : List Step) → Reached wd → n + workLeft wd ≤ mostWork wd → changes n wd ss ≤ mostWork (run wd ss)
 unfolding changes run
 changes-bound n wd [] r h = omega arith
-changes-bound n wd (s ∷ ss) r h = changes-bound _ (step s wd .world) ss (reached-step wd s r) (by (step-facts wd (r .inShape) s))
-  where
-    anew : begins s (step s wd .reply) ≡ true →
-        cond (begins s (step s wd .reply)) 0 (cond (sameWorld wd (step s wd .world)) n (suc n)) + workLeft (step s wd .world) ≤ mostWork (step s wd .world)
-    anew b = simp b (omega (arith, workLeft-most (step s wd .world) (reached-step wd s r)))
-
-    counted : begins s (step s wd .reply) ≡ false → Work wd (step s wd .world) → (t : Bool) → sameWorld wd (step s wd .world) ≡ t →
-        (step s wd .world ≡ wd) ⊎ (workLeft (step s wd .world) < workLeft wd) →
-        cond (begins s (step s wd .reply)) 0 (cond (sameWorld wd (step s wd .world)) n (suc n)) + workLeft (step s wd .world) ≤ mostWork (step s wd .world)
-    counted quiet work t same (inl e) =
-        let itself : sameWorld wd (step s wd .world) ≡ true = ap (sameWorld wd) e ∙ sameWorld-itself wd in
-        simp (quiet, itself) (omega (arith, ap workLeft e, work-most wd (step s wd .world) work))
-    counted quiet work true same (inr l) = simp (quiet, same) (omega (arith, work-most wd (step s wd .world) work))
-    counted quiet work false same (inr l) = simp (quiet, same) (omega (arith, work-most wd (step s wd .world) work))
-
-    by : Facts s wd → cond (begins s (step s wd .reply)) 0 (cond (sameWorld wd (step s wd .world)) n (suc n)) + workLeft (step s wd .world) ≤ mostWork (step s wd .world)
-    by (working quiet work) = counted quiet work (sameWorld wd (step s wd .world)) refl (work-lowers wd (step s wd .world) r work)
-    by (dropping w is done k e sh) = anew (ap (λ x. begins x (step s wd .reply)) is ∙ done)
-    by (joining w is done k away e sh) = anew (ap (λ x. begins x (step s wd .reply)) is ∙ done)
-    by (starting b is done m) = anew (ap (λ x. begins x (step s wd .reply)) is ∙ done)
-    by (appending e is done k same) = anew (ap (λ x. begins x (step s wd .reply)) is ∙ done)
+changes-bound n wd (s ∷ ss) r h =
+    changes-bound (countAfter n wd s) (step s wd .world) ss (reached-step wd s r) (by-facts n wd s r h (step-facts wd (r .inShape) s))

@@ -1,4 +1,4 @@
--- Runs computed on the rules.
+-- Runs computed on the rules. An example computes the definitions themselves, and no law of them is used: each is true by `refl`.
 use Prim.Native.Nat.{ℕ}
 use mathlib.Core.Path.{_≡_, refl}
 use mathlib.Core.List.{List, [], _∷_}
@@ -18,6 +18,19 @@ use Rattle.delivery.specs.World.{World, sideAt, withViews, withPlayer, o
 unfoldable pub replies : World → List Step → List Reply
 replies wd [] = []
 replies wd (s ∷ ss) = step s wd .reply ∷ replies (step s wd .world) ss
+
+-- to unfold this is to unfold the definitions that a run computes with
+computed : Unit {0}
+unfolding
+    replies run step opened withViews withPlayer onLine takeFront
+    startRule areReports least mainRule catchRule writtenRule ackRule dropRule joinRule sendRule operate mapWindows
+    shape windowShape allWindows all check enqueue mainAt fetched catchIn catchAt readyIn batchOf launched sendAt writtenAt struck ackAt dropAt joinAt
+    raceAfter racesAfter recordAfter takeEntry takeNumbers
+    numbersOf entriesOf entryAt hasWindow isFor
+computed = tt
+
+abbrev pub done : Reply
+done = answered 0
 
 -- what a window shows at the end: last and count
 pub record Shown : Type 0 where
@@ -51,28 +64,28 @@ afternoonSteps =
 -- (a) the run of document 01: its answers, and then the windows' last and count
 pub record RunA : Type 0 where
   pub answers : replies (openedWith afternoon 2) afternoonSteps ≡
-      answered 0 ∷ answered 0 ∷ answered 0 ∷ answered 0 ∷ answered 0 ∷ answered 0 ∷ answered 7 ∷ answered 0 ∷ answered 0 ∷ answered 0 ∷ []
+      done ∷ done ∷ done ∷ done ∷ done ∷ done ∷ answered 7 ∷ done ∷ done ∷ done ∷ []
   pub window0 : shownAt 0 (run (openedWith afternoon 2) afternoonSteps) ≡ record { last = 2; count = 2 }
   pub window1 : shownAt 1 (run (openedWith afternoon 2) afternoonSteps) ≡ record { last = 0; count = 0 }
 
 pub row-a : RunA
-unfolding replies run step opened startRule areReports least mainRule catchRule writtenRule ackRule dropRule joinRule sendRule operate mapWindows shape windowShape allWindows all check enqueue mainAt fetched catchIn catchAt readyIn batchOf launched sendAt writtenAt struck ackAt dropAt joinAt withViews withPlayer onLine takeFront raceAfter racesAfter recordAfter takeEntry takeNumbers numbersOf entriesOf entryAt hasWindow isFor
+unfolding computed
 row-a = record { answers = refl; window0 = refl; window1 = refl }
 
--- a line drops between taking the last entry of a batch and its ack: the ack is refused and stays, the window joins with what it has taken, the
--- line is empty both ways, and the next batch goes on after it
+-- A line drops between taking the last entry of a batch and its ack: the ack is refused and stays. The window joins with what it has taken:
+-- the line is then empty both ways and free, and the window is Normal.
 abbrev pub dropSteps : List Step
 dropSteps =
     main 1 ∷ main 2 ∷ send 0 room ∷ take 0 ∷ take 0 ∷ drop 0 ∷ ack 0 ∷ join 0 ∷ ack 0 ∷ main 3 ∷ catch 0 (term 2) 3 ∷ written 0 (term 2) ∷ []
 
 pub record DropBeforeAck : Type 0 where
   pub answers : replies (openedWith afternoon 2) dropSteps ≡
-      answered 0 ∷ answered 0 ∷ answered 0 ∷ answered 0 ∷ answered 0 ∷ answered 0 ∷ answered 3 ∷ answered 0 ∷ empty ∷ answered 0 ∷ answered 4 ∷ answered 8 ∷ []
+      done ∷ done ∷ done ∷ done ∷ done ∷ done ∷ answered 3 ∷ done ∷ empty ∷ done ∷ answered 4 ∷ answered 8 ∷ []
   pub window0 : shownAt 0 (run (openedWith afternoon 2) dropSteps) ≡ record { last = 2; count = 2 }
   pub acknowledged : sideAt 0 (run (openedWith afternoon 2) dropSteps) .view .acked ≡ 2
 
 pub drop-before-ack : DropBeforeAck
-unfolding replies run step opened startRule areReports least mainRule catchRule writtenRule ackRule dropRule joinRule sendRule operate mapWindows shape windowShape allWindows all check enqueue mainAt fetched catchIn catchAt readyIn batchOf launched sendAt writtenAt struck ackAt dropAt joinAt withViews withPlayer onLine takeFront raceAfter racesAfter recordAfter takeEntry takeNumbers numbersOf entriesOf entryAt hasWindow isFor
+unfolding computed
 drop-before-ack = record { answers = refl; window0 = refl; acknowledged = refl }
 
 -- the player starts anew in the middle of a batch: the second entry was on the line and is sent again, and taken once
@@ -82,9 +95,9 @@ startSteps =
 
 pub record StartInBatch : Type 0 where
   pub answers : replies (openedWith afternoon 2) startSteps ≡
-      answered 0 ∷ answered 0 ∷ answered 0 ∷ answered 0 ∷ answered 0 ∷ empty ∷ answered 0 ∷ answered 0 ∷ answered 0 ∷ answered 0 ∷ answered 0 ∷ []
+      done ∷ done ∷ done ∷ done ∷ done ∷ empty ∷ done ∷ done ∷ done ∷ done ∷ done ∷ []
   pub window0 : shownAt 0 (run (openedWith afternoon 2) startSteps) ≡ record { last = 2; count = 2 }
 
 pub start-in-batch : StartInBatch
-unfolding replies run step opened startRule areReports least mainRule catchRule writtenRule ackRule dropRule joinRule sendRule operate mapWindows shape windowShape allWindows all check enqueue mainAt fetched catchIn catchAt readyIn batchOf launched sendAt writtenAt struck ackAt dropAt joinAt withViews withPlayer onLine takeFront raceAfter racesAfter recordAfter takeEntry takeNumbers numbersOf entriesOf entryAt hasWindow isFor
+unfolding computed
 start-in-batch = record { answers = refl; window0 = refl }

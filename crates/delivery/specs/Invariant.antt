@@ -1,14 +1,15 @@
--- The invariant of a run, one window at a time: where the window's own entries are on their way.
-use Prim.Native.Nat.{ℕ, _-_, _≤_, _<_}
+-- The invariant of a run, one window at a time, in its parts: what is taken, what is on the line, what is unacknowledged, what is queued.
+-- Each part speaks of no more than its parameters, so a step that leaves these alone hands it on.
+use Prim.Native.Nat.{ℕ, _-_, _≤_, _<_, max}
 use mathlib.Core.Path.{_≡_}
-use mathlib.Core.Logic.{_⊎_}
 use mathlib.Core.List.{List, [], _∷_, _++_, map}
-use mathlib.Core.Bool.{true, false, cond}
+use mathlib.Core.Bool.{Bool, true, false, cond}
 use lib.ListN.{length}
 use Rattle.journal.specs.declared.Entry.{Entry}
 use Rattle.journal.specs.Entry.{Placed, placedAt}
 use Rattle.journal.specs.Due.{due}
 use Rattle.lists.specs.Rising.{Rising}
+use Rattle.record.specs.declared.Record.{Record}
 use Rattle.record.specs.Record.{newRecord, takeAll}
 use Rattle.rules.specs.declared.Term.{Term}
 use Rattle.rules.specs.View.{Condition, normal, fetching, completed, suspended, WindowView}
@@ -20,75 +21,113 @@ use Rattle.delivery.specs.World.{Sent, Ack, Side, World, sideAt, numbers
 abbrev pub lastOf : Side → ℕ
 lastOf p = p .record′ .last .0
 
-abbrev pub backIndices : List Ack → List ℕ
-backIndices b = map (λ a. a .index) b
+-- ------------------------------------------------------------------------
+-- What is taken
+
+-- what is due up to the record's last index is taken, and the record is made of that
+pub record Taken (j : List Entry) (w : ℕ) (r : Record) (taken : List Placed) : Type 0 where
+  pub lastIn : r .last .0 ≤ length j
+  pub lastOwn : isReport j w (r .last .0) ≡ true
+  pub takenIs : taken ≡ map (placedAt j) (due j w 0 (r .last .0))
+  pub recordIs : r ≡ takeAll taken newRecord
+
+-- ------------------------------------------------------------------------
+-- What is on the line
 
 abbrev pub lineEntries : List Sent → List Placed
 lineEntries l = map (λ s. s .placed) l
-
--- the last indices of the batches on a line
-unfoldable pub endsOf : List Sent → List ℕ
-endsOf [] = []
-endsOf (s ∷ l) = cond (s .ends) (s .placed .index ∷ endsOf l) (endsOf l)
 
 -- every term on a line is t
 abbrev pub LineTerms : Term → List Sent → Type 0
 LineTerms t [] = Unit {0}
 LineTerms t (s ∷ l) = (s .term ≡ t) × LineTerms t l
 
+-- what is due from last to sent is on the line
+pub record InFlight (j : List Entry) (w last sent : ℕ) (t : Term) (line : List Sent) : Type 0 where
+  pub lastSent : last ≤ sent
+  pub sentIn : sent ≤ length j
+  pub lineIs : lineEntries line ≡ map (placedAt j) (due j w last sent)
+  pub lineTerms : LineTerms t line
+
+-- ------------------------------------------------------------------------
+-- What is unacknowledged
+
+abbrev pub backIndices : List Ack → List ℕ
+backIndices b = map (λ a. a .index) b
+
 abbrev pub BackTerms : Term → List Ack → Type 0
 BackTerms t [] = Unit {0}
 BackTerms t (a ∷ b) = (a .term ≡ t) × BackTerms t b
 
--- Fetching n e: the catch-up queue has what is due up to n - 1, the normal queue what is due after e
-pub record FetchingQueues (j : List Entry) (current w : ℕ) (v : WindowView) (n e : ℕ) : Type 0 where
-  pub behind : v .sent < n
-  pub order : n ≤ e
-  pub read : e ≤ current
-  pub catchIs : v .catchQueue ≡ due j w (v .sent) (n - 1)
-  pub normalIs : v .normalQueue ≡ due j w e current
+-- the last indices of the batches on a line
+unfoldable pub endsOf : List Sent → List ℕ
+endsOf [] = []
+endsOf (s ∷ l) = cond (s .ends) (s .placed .index ∷ endsOf l) (endsOf l)
 
--- Completed e: the catch-up queue has what is due up to e and is not empty, the normal queue what is due after e
-pub record CompletedQueues (j : List Entry) (current w : ℕ) (v : WindowView) (e : ℕ) : Type 0 where
-  pub behind : v .sent ≤ e
-  pub read : e ≤ current
-  pub some : isEmpty (v .catchQueue) ≡ false
-  pub catchIs : v .catchQueue ≡ due j w (v .sent) e
-  pub normalIs : v .normalQueue ≡ due j w e current
+-- The acks on the way back rise from the acknowledged index to last. The unacknowledged batches are these acks, then the batches on the
+-- line; a Suspended window (`away`) has none.
+pub record Unacknowledged (away : Bool) (t : Term) (acked last : ℕ) (batches : List ℕ) (line : List Sent) (back : List Ack) : Type 0 where
+  pub ackedLast : acked ≤ last
+  pub backTerms : BackTerms t back
+  pub backRises : Rising acked (backIndices back) last
+  pub batchesIs : away ≡ false → batches ≡ backIndices back ++ endsOf line
+  pub noBatches : away ≡ true → batches ≡ []
 
--- Suspended: nothing is queued and nothing unacknowledged
-pub record NoQueues (v : WindowView) : Type 0 where
-  pub normalIs : v .normalQueue ≡ []
-  pub catchIs : v .catchQueue ≡ []
-  pub batchesIs : v .batches ≡ []
+-- ------------------------------------------------------------------------
+-- What is queued
 
-abbrev pub Queues : List Entry → ℕ → ℕ → WindowView → Condition → Type 0
-Queues j current w v normal = v .normalQueue ≡ due j w (v .sent) current
-Queues j current w v (fetching n e) = FetchingQueues j current w v n e
-Queues j current w v (completed e) = CompletedQueues j current w v e
-Queues j current w v suspended = NoQueues v
+-- a queue has the window's own indices in (a, b], in order
+pub record Holds (j : List Entry) (w a b : ℕ) (q : List ℕ) : Type 0 where
+  pub own : q ≡ due j w a b
+
+-- Normal: the normal queue has what is due after sent. The window is ahead of the main stream only where all that is sent is acknowledged
+pub record NormalQueues (j : List Entry) (current w acked sent : ℕ) (n : List ℕ) : Type 0 where
+  pub ahead : sent ≤ max current acked
+  pub normalHas : Holds j w sent current n
+
+-- Fetching: the catch-up queue has what is due up to next - 1, the normal queue what is due after the end
+pub record FetchingQueues (j : List Entry) (current w sent : ℕ) (n q : List ℕ) (next end : ℕ) : Type 0 where
+  pub behind : sent < next
+  pub order : next ≤ end
+  pub read : end ≤ current
+  pub catchHas : Holds j w sent (next - 1) q
+  pub normalHas : Holds j w end current n
+
+-- Completed: the catch-up queue has what is due up to the end and is not empty, the normal queue what is due after the end
+pub record CompletedQueues (j : List Entry) (current w sent : ℕ) (n q : List ℕ) (end : ℕ) : Type 0 where
+  pub behind : sent ≤ end
+  pub read : end ≤ current
+  pub some : isEmpty q ≡ false
+  pub catchHas : Holds j w sent end q
+  pub normalHas : Holds j w end current n
+
+-- Suspended: nothing is queued
+pub record NoQueues (n q : List ℕ) : Type 0 where
+  pub normalIs : n ≡ []
+  pub catchIs : q ≡ []
+
+-- the normal queue n and the catch-up queue q of a window, by its condition
+abbrev pub Queues : List Entry → (current w acked sent : ℕ) → (n q : List ℕ) → Condition → Type 0
+Queues j current w acked sent n q normal = NormalQueues j current w acked sent n
+Queues j current w acked sent n q (fetching next end) = FetchingQueues j current w sent n q next end
+Queues j current w acked sent n q (completed end) = CompletedQueues j current w sent n q end
+Queues j current w acked sent n q suspended = NoQueues n q
+
+-- the same of a window whose condition is s
+abbrev pub QueuesOf : List Entry → (current w : ℕ) → WindowView → Condition → Type 0
+QueuesOf j current w v s = Queues j current w (v .acked) (v .sent) (v .normalQueue) (v .catchQueue) s
+
+-- ------------------------------------------------------------------------
+-- The whole
 
 -- a window's side of a reachable world
 pub record Inv (j : List Entry) (current w : ℕ) (p : Side) : Type 0 where
-  pub ackedLast : p .view .acked ≤ lastOf p
-  pub lastSent : lastOf p ≤ p .view .sent
-  pub sentIn : p .view .sent ≤ length j
-  pub lastOwn : isReport j w (lastOf p) ≡ true
-  -- what was taken is what is due up to last; the record is made of that
-  pub takenIs : p .taken ≡ map (placedAt j) (due j w 0 (lastOf p))
-  pub recordIs : p .record′ ≡ takeAll (p .taken) newRecord
-  -- what is on the line is what is due from last to sent
-  pub lineIs : lineEntries (p .line) ≡ map (placedAt j) (due j w (lastOf p) (p .view .sent))
-  pub lineTerms : LineTerms (p .view .term) (p .line)
-  pub backTerms : BackTerms (p .view .term) (p .back)
-  -- the acks on the way back rise from the acknowledged index to last
-  pub backRises : Rising (p .view .acked) (backIndices (p .back)) (lastOf p)
-  -- the unacknowledged batches are the acks on the way back, then the batches on the line
-  pub batchesIs : isSuspended (p .view .condition) ≡ false → p .view .batches ≡ backIndices (p .back) ++ endsOf (p .line)
+  pub taken : Taken j w (p .record′) (p .taken)
+  pub flight : InFlight j w (lastOf p) (p .view .sent) (p .view .term) (p .line)
+  pub unacked :
+      Unacknowledged (isSuspended (p .view .condition)) (p .view .term) (p .view .acked) (lastOf p) (p .view .batches) (p .line) (p .back)
+  pub queues : QueuesOf j current w (p .view) (p .view .condition)
   pub busySent : p .view .busy ≡ true → 1 ≤ p .view .sent
-  -- a window is ahead of the main stream only with nothing out
-  pub notAhead : isSuspended (p .view .condition) ≡ false → (p .view .sent ≤ current) ⊎ (p .view .acked ≡ p .view .sent)
-  pub queues : Queues j current w (p .view) (p .view .condition)
 
 -- a reachable world: in shape, and each window's side as above
 pub record Reached (wd : World) : Type 0 where

@@ -7,24 +7,24 @@ use mathlib.Core.Bool.{Bool, true, false, not, cond}
 use native.Mathlib.Omega.{arith}
 use borrow.Author.Tests.{eq-eqb, ne-eqb}
 use lib.ListN.{length}
-use lib.Dec.{eqb, ltb}
+use lib.Dec.{ltb}
 use Rattle.journal.specs.declared.Entry.{Entry}
-use Rattle.lists.specs.Cases.{eq-or-ne, le-or-lt}
+use Rattle.lists.specs.Cases.{le-or-lt}
+use Rattle.lists.specs.Set.{getD-set-each}
 use Rattle.rules.specs.View.{Condition, normal, fetching, completed, WindowView}
 use Rattle.rules.specs.Shape.{isEmpty}
 use Rattle.rules.specs.Window.{isSuspended, mainAt, fetched, batchOf}
 use Rattle.rules.specs.Offers.{ConditionAfter, batchOf-condition, oneIf, mainAt-either, fetched-more, fetched-last, launched-is}
 use Rattle.rules.specs.Offers as B
-use Rattle.delivery.specs.World.{Side, World, sideAt, withSide, Step, main, catch, written, send, ack, late-ack, drop, join, start, append, Reply, step, run}
+use Rattle.delivery.specs.World.{Side, World, noSide, sideAt, withSide, takeFront, Step, main, catch, written, send, ack, late-ack, drop, join, start, append, Reply, step, run}
 use Rattle.delivery.specs.World as W
-use Rattle.delivery.specs.Statement.{isDone, begins, joinedBy, joinedAfter}
-use Rattle.delivery.specs.Invariant.{Inv, Reached, lastOf}
-use Rattle.delivery.specs.KeepLine.{take-side}
-use Rattle.delivery.specs.Worlds.{withSide-here, withSide-other, withSide-count}
+use Rattle.delivery.specs.Statement.{begins, joinedBy, joinedAfter}
+use Rattle.delivery.specs.Invariant.{Reached, lastOf}
+use Rattle.delivery.specs.Worlds.{withSide-count}
 use Rattle.delivery.specs.Effects.{Worked, Work, stays, mains, works, Facts, working, dropping, joining, starting, appending}
 use Rattle.delivery.specs.Effects as E
 use Rattle.delivery.specs.SteppedAll.{step-facts}
-use Rattle.delivery.specs.Reach.{few-in, reached-step}
+use Rattle.delivery.specs.Reach.{reached-step}
 
 -- ------------------------------------------------------------------------
 -- the number of windows
@@ -75,32 +75,28 @@ after-away : (s s′ : Condition) → ConditionAfter s s′ → isSuspended s′
 after-away s s′ (B.same e) = ap isSuspended e
 after-away s s′ (B.emptied end e n) = ap isSuspended n ∙ sym (ap isSuspended e)
 
-worked-away : (j : List Entry) (c limit w : ℕ) (p p′ : Side) → Inv j c w p → length j ≤ 65535 → Worked j limit w p p′ → away p′ ≡ away p
-worked-away j c limit w p p′ inv few (E.caught t i k e) = ap away e ∙ fetched-away _ i (k .upto) (p .view) ∙ sym (ap isSuspended (k .was))
-worked-away j c limit w p p′ inv few (E.sent size out e) =
+worked-away : (j : List Entry) (limit w : ℕ) (p p′ : Side) → Worked j limit w p p′ → away p′ ≡ away p
+unfolding takeFront
+worked-away j limit w p p′ (E.caught t i k e) = ap away e ∙ fetched-away _ i (k .upto) (p .view) ∙ sym (ap isSuspended (k .was))
+worked-away j limit w p p′ (E.sent size out e) =
     ap away e
     ∙ ap (λ v. isSuspended (v .condition)) (launched-is (batchOf limit (p .view) .indices) (batchOf limit (p .view) .rest))
     ∙ after-away (p .view .condition) _ (batchOf-condition limit (p .view))
-worked-away j c limit w p p′ inv few (E.written t off e) = ap away e
-worked-away j c limit w p p′ inv few (E.took s rest front e) = ap away e ∙ ap away (take-side j c w p inv few s rest front)
-worked-away j c limit w p p′ inv few (E.acked a rest front taken e) = ap away e
+worked-away j limit w p p′ (E.written t off e) = ap away e
+worked-away j limit w p p′ (E.took s rest front e) = ap away e
+worked-away j limit w p p′ (E.acked a rest front taken e) = ap away e
 
--- a side of a world of which one side is replaced
-placed-away : (wd wd′ : World) (v w : ℕ) (p′ : Side) → v < length (wd .sides) → wd′ ≡ withSide v p′ wd → (b : Bool) →
-    (w ≡ v → away p′ ≡ b) → ((w ≡ v → ⊥) → away (sideAt w wd) ≡ b) → away (sideAt w wd′) ≡ b
-placed-away wd wd′ v w p′ h e b this other =
-    ⊎-elim
-    (λ (n : w ≡ v). ap (λ x. away (sideAt w x)) e ∙ ap (λ u. away (sideAt u (withSide v p′ wd))) n ∙ ap away (withSide-here v p′ wd h) ∙ this n)
-    (λ (n : w ≡ v → ⊥). ap (λ x. away (sideAt w x)) e ∙ ap away (withSide-other v w p′ wd n) ∙ other n)
-    (eq-or-ne w v)
+-- a world of which one side is replaced, and what is to be the case at each window
+replaced-away : (wd wd′ : World) (v w : ℕ) (p′ : Side) → v < length (wd .sides) → wd′ ≡ withSide v p′ wd → (b : ℕ → Bool) → away p′ ≡ b v →
+    ((w ≡ v → ⊥) → away (sideAt w wd) ≡ b w) → away (sideAt w wd′) ≡ b w
+replaced-away wd wd′ v w p′ h e b this other =
+    ap (λ x. away (sideAt w x)) e ∙ getD-set-each (λ u p. away p ≡ b u) (wd .sides) v w p′ noSide h this other
 
-work-away : (wd wd′ : World) (w : ℕ) → Reached wd → w < length (wd .sides) → Work wd wd′ → away (sideAt w wd′) ≡ away (sideAt w wd)
-work-away wd wd′ w r h (stays e) = ap (λ x. away (sideAt w x)) e
-work-away wd wd′ w r h (mains m) = ap away (m .each w h) ∙ main-away (wd .journal) w (suc (wd .current)) (sideAt w wd .view)
-work-away wd wd′ w r h (works v k p′ work e s) =
-    placed-away wd wd′ v w p′ k e (away (sideAt w wd))
-    (λ n. worked-away (wd .journal) (wd .current) (wd .limit) v (sideAt v wd) p′ (r .each v k) (few-in wd r) work ∙ ap (λ u. away (sideAt u wd)) (sym n))
-    (λ n. refl)
+work-away : (wd wd′ : World) (w : ℕ) → w < length (wd .sides) → Work wd wd′ → away (sideAt w wd′) ≡ away (sideAt w wd)
+work-away wd wd′ w h (stays e) = ap (λ x. away (sideAt w x)) e
+work-away wd wd′ w h (mains m) = ap away (m .each w h) ∙ main-away (wd .journal) w (suc (wd .current)) (sideAt w wd .view)
+work-away wd wd′ w h (works v k p′ work e s) =
+    replaced-away wd wd′ v w p′ k e (λ u. away (sideAt u wd)) (worked-away (wd .journal) (wd .limit) v (sideAt v wd) p′ work) (λ n. refl)
 
 -- ------------------------------------------------------------------------
 -- joinedBy
@@ -118,36 +114,33 @@ joined-quiet w (join v) r b e = rw e
 joined-quiet w (start l) r b e = rw e
 joined-quiet w (append x) r b e = refl
 
-pub joined-step : (wd : World) (s : Step) (w : ℕ) (b : Bool) → Reached wd → w < length (wd .sides) → away (sideAt w wd) ≡ not b →
+joined-condition : (t : Bool) (n c : ℕ) → isSuspended (cond t (fetching n c) normal) ≡ false
+joined-condition true n c = refl
+joined-condition false n c = refl
+
+joined-step : (wd : World) (s : Step) (w : ℕ) (b : Bool) → Reached wd → w < length (wd .sides) → away (sideAt w wd) ≡ not b →
     away (sideAt w (step s wd .world)) ≡ not (joinedBy w s (step s wd .reply) b)
 joined-step wd s w b r h is = by (step-facts wd (r .inShape) s)
   where
-    dropped-by : (v : ℕ) → s ≡ drop v → isDone (step s wd .reply) ≡ true → (t : Bool) → eqb v w ≡ t → joinedBy w s (step s wd .reply) b ≡ cond t false b
-    dropped-by v e done t n = ap (λ x. joinedBy w x (step s wd .reply) b) e ∙ rw (done, n)
+    -- whether window u is joined after the step
+    after : ℕ → Bool
+    after u = not (joinedBy u s (step s wd .reply) b)
 
-    joined-by : (v : ℕ) → s ≡ join v → isDone (step s wd .reply) ≡ true → (t : Bool) → eqb v w ≡ t → joinedBy w s (step s wd .reply) b ≡ cond t true b
-    joined-by v e done t n = ap (λ x. joinedBy w x (step s wd .reply) b) e ∙ rw (done, n)
-
-    started-by : (l : ℕ) → s ≡ start l → isDone (step s wd .reply) ≡ true → joinedBy w s (step s wd .reply) b ≡ true
-    started-by l e done = ap (λ x. joinedBy w x (step s wd .reply) b) e ∙ rw done
-
-    joined-condition : (t : Bool) (n c : ℕ) → isSuspended (cond t (fetching n c) normal) ≡ false
-    joined-condition true n c = refl
-    joined-condition false n c = refl
+    step-is : (x : Step) → s ≡ x → (u : ℕ) → joinedBy u x (step s wd .reply) b ≡ joinedBy u s (step s wd .reply) b
+    step-is x e u = ap (λ x. joinedBy u x (step s wd .reply) b) (sym e)
 
     by : Facts s wd → away (sideAt w (step s wd .world)) ≡ not (joinedBy w s (step s wd .reply) b)
-    by (working quiet work) = work-away wd _ w r h work ∙ is ∙ ap not (sym (joined-quiet w s (step s wd .reply) b quiet))
+    by (working quiet work) = work-away wd _ w h work ∙ is ∙ ap not (sym (joined-quiet w s (step s wd .reply) b quiet))
     by (dropping v e done k is′ sh) =
-        placed-away wd _ v w _ k is′ (not (joinedBy w s (step s wd .reply) b))
-        (λ n. ap not (sym (dropped-by v e done true (eq-eqb v w (sym n)))))
-        (λ n. is ∙ ap not (sym (dropped-by v e done false (ne-eqb v w (λ m. n (sym m))))))
+        replaced-away wd _ v w _ k is′ after
+        (rw (← step-is (drop v) e v, done, eq-eqb v v refl))
+        (λ n. rw (← step-is (drop v) e w, done, ne-eqb v w (λ m. n (sym m))) is)
     by (joining v e done k away′ is′ sh) =
-        placed-away wd _ v w _ k is′ (not (joinedBy w s (step s wd .reply) b))
-        (λ n. joined-condition (ltb (lastOf (sideAt v wd)) (wd .current)) (lastOf (sideAt v wd) + 1) (wd .current) ∙ ap not (sym (joined-by v e done true (eq-eqb v w (sym n)))))
-        (λ n. is ∙ ap not (sym (joined-by v e done false (ne-eqb v w (λ m. n (sym m))))))
-    by (starting l e done m) =
-        ap away (m .each w h) ∙ ap not (sym (started-by l e done))
-    by (appending x e done k is′) = ap (λ y. away (sideAt w y)) is′ ∙ is ∙ ap not (sym (ap (λ x. joinedBy w x (step s wd .reply) b) e))
+        replaced-away wd _ v w _ k is′ after
+        (rw (← step-is (join v) e v, done, eq-eqb v v refl) (joined-condition (ltb (lastOf (sideAt v wd)) (wd .current)) _ (wd .current)))
+        (λ n. rw (← step-is (join v) e w, done, ne-eqb v w (λ m. n (sym m))) is)
+    by (starting l e done m) = ap away (m .each w h) ∙ rw (← step-is (start l) e w, done)
+    by (appending x e done k is′) = ap (λ y. away (sideAt w y)) is′ ∙ is ∙ ap not (step-is (append x) e w)
 
 pub joined-run : (wd : World) (ss : List Step) (w : ℕ) (b : Bool) → Reached wd → w < length (wd .sides) → away (sideAt w wd) ≡ not b →
     away (sideAt w (run wd ss)) ≡ not (joinedAfter w b wd ss)

@@ -1,93 +1,73 @@
 -- Catch keeps the invariant of its window: what is fetched joins the catch-up queue, and past the end the two queues meet.
-use Prim.Native.Nat.{ℕ, zero, suc, _+_, _-_, _≤_, _<_}
-use mathlib.Core.Path.{_≡_, refl, sym, ap, subst, subst⁻¹, _∙_}
-use mathlib.Core.Logic.{inl, ⊎-elim}
+use Prim.Native.Nat.{ℕ, _+_, _≤_, _<_}
+use mathlib.Core.Path.{_≡_, refl, subst, subst⁻¹}
+use mathlib.Core.Logic.{⊎-elim}
 use mathlib.Core.List.{List, [], _∷_, _++_}
-use mathlib.Core.Bool.{Bool, true, false, cond, and-true, false≢true}
+use mathlib.Core.Bool.{cond, and-true}
 use native.Mathlib.Omega.{arith}
 use borrow.Author.Tests.{lt-ltb}
 use Rattle.journal.specs.declared.Entry.{Entry}
 use Rattle.journal.specs.Entry.{isFor}
-use Rattle.lists.specs.Cases.{true-or-false, le-or-lt}
-use Rattle.journal.specs.Due.{due, one, due-split, due-more}
+use Rattle.lists.specs.Cases.{le-or-lt}
 use Rattle.rules.specs.declared.Term.{Term}
-use Rattle.rules.specs.View.{Condition, normal, fetching, completed, WindowView}
+use Rattle.rules.specs.View.{normal, fetching, completed, WindowView}
 use Rattle.rules.specs.Shape.{isEmpty}
-use Rattle.rules.specs.Window.{isSuspended, requeue, wanted, fetched}
+use Rattle.rules.specs.Window.{requeue, wanted, fetched}
 use Rattle.rules.specs.Offers.{oneIf, fetched-more, fetched-last, Caught}
 use Rattle.delivery.specs.World.{Side, withView}
-use Rattle.delivery.specs.Invariant.{Inv, Queues, FetchingQueues}
-use Rattle.delivery.specs.KeepMain.{inv-requeue}
+use Rattle.delivery.specs.Invariant.{Inv, Holds, FetchingQueues}
+use Rattle.delivery.specs.Queued.{holds-to, holds-next, holds-append, withQueues, withQueues-same, keep-requeue}
 
-pub isEmpty-nil : (q : List ℕ) → isEmpty q ≡ true → q ≡ []
-isEmpty-nil [] e = refl
-isEmpty-nil (x ∷ q) e = absurd (false≢true e)
+-- a window that is Fetching i u, with its queues named
+module _ (j : List Entry) (c w : ℕ) (p : Side) (n q : List ℕ) (i u : ℕ) (inv : Inv j c w (withQueues n q (fetching i u) p)) where
+  abbrev view : WindowView
+  view = requeue n q (fetching i u) (p .view)
 
--- what is due up to an index is what is due before it, and it
-due-upto : (j : List Entry) (w a i : ℕ) → a < i → due j w a i ≡ due j w a (i - 1) ++ one j w i
-due-upto j w a zero h = absurd (omega arith)
-due-upto j w a (suc i) h = let e : suc i - 1 ≡ i = omega arith in rw e (due-more j w a i (omega arith))
-
-module _ (j : List Entry) (c w : ℕ) (p : Side) (inv : Inv j c w p) (t : Term) (i : ℕ) (caught : Caught j w t i (p .view)) where
-  queuesBefore : FetchingQueues j c w (p .view) i (caught .upto)
-  queuesBefore = subst (Queues j c w (p .view)) (caught .was) (inv .queues)
-
-  wanted-is : wanted j w i (p .view) ≡ isFor j w i
-  wanted-is = simp (lt-ltb (p .view .acked) i (omega (arith, inv .ackedLast, inv .lastSent, queuesBefore .behind)), and-true)
+  is : FetchingQueues j c w (p .view .sent) n q i u
+  is = inv .queues
 
   -- the catch-up queue after the step
-  q : List ℕ
-  q = p .view .catchQueue ++ oneIf (wanted j w i (p .view)) i
+  abbrev after : List ℕ
+  after = q ++ oneIf (wanted j w i (p .view)) i
 
-  q-due : p .view .catchQueue ++ oneIf (wanted j w i (p .view)) i ≡ due j w (p .view .sent) i
-  q-due =
-      ap (λ b. p .view .catchQueue ++ oneIf b i) wanted-is
-      ∙ ap (λ l. l ++ one j w i) (queuesBefore .catchIs)
-      ∙ sym (due-upto j w (p .view .sent) i (queuesBefore .behind))
+  after-has : Holds j w (p .view .sent) i after
+  after-has =
+      let e : isFor j w i ≡ wanted j w i (p .view)
+      = simp (lt-ltb (p .view .acked) i (omega (arith, inv .unacked .ackedLast, inv .flight .lastSent, is .behind)), and-true) in
+      holds-next i (wanted j w i (p .view)) e (is .behind) (is .catchHas)
 
-  by-law : (s : Condition) (v : WindowView) → fetched (wanted j w i (p .view)) i (caught .upto) (p .view) ≡ v →
-      v ≡ requeue (p .view .normalQueue) (p .view .catchQueue ++ oneIf (wanted j w i (p .view)) i) s (p .view) →
-      Queues j c w (requeue (p .view .normalQueue) (p .view .catchQueue ++ oneIf (wanted j w i (p .view)) i) s (p .view)) s →
-      Inv j c w (withView (fetched (wanted j w i (p .view)) i (caught .upto) (p .view)) p)
-  by-law s v law same queues =
-      subst⁻¹ (λ x. Inv j c w (withView x p)) (law ∙ same)
-      (inv-requeue j c c w p _ _ s inv (ap isSuspended (caught .was))
-      (inl (omega (arith, queuesBefore .behind, queuesBefore .order, queuesBefore .read))) queues)
+  abbrev Kept : WindowView → Type 0
+  Kept v = Inv j c w (withView v p)
 
-  more : i < caught .upto → Inv j c w (withView (fetched (wanted j w i (p .view)) i (caught .upto) (p .view)) p)
+  more : i < u → Kept (fetched (wanted j w i (p .view)) i u view)
   more h =
-      by-law (fetching (i + 1) (caught .upto)) _ (fetched-more _ i (caught .upto) (p .view) h) refl
+      subst⁻¹ Kept (fetched-more (wanted j w i (p .view)) i u view h)
+      (keep-requeue n after (fetching (i + 1) u) inv refl
       (record {
-        behind = omega (arith, queuesBefore .behind);
+        behind = omega (arith, is .behind);
         order = omega arith;
-        read = queuesBefore .read;
-        catchIs = q-due ∙ ap (due j w (p .view .sent)) (let z : i ≡ i + 1 - 1 = omega arith in z);
-        normalIs = queuesBefore .normalIs;
-      })
-
-  last : caught .upto ≤ i → Inv j c w (withView (fetched (wanted j w i (p .view)) i (caught .upto) (p .view)) p)
-  last h =
-      let u : ℕ = caught .upto in
-      let i≡u : i ≡ caught .upto = omega (arith, queuesBefore .order) in
-      let law = fetched-last (wanted j w i (p .view)) i (caught .upto) (p .view) h in
-      let named : (b : Bool) → isEmpty (p .view .catchQueue ++ oneIf (wanted j w i (p .view)) i) ≡ b → _
-      = λ b e. ap (λ b. requeue (p .view .normalQueue) (p .view .catchQueue ++ oneIf (wanted j w i (p .view)) i) (cond b normal (completed (caught .upto))) (p .view)) e in
-      ⊎-elim
-      (λ (e : isEmpty (p .view .catchQueue ++ oneIf (wanted j w i (p .view)) i) ≡ true).
-      by-law normal _ law (named true e)
-      (queuesBefore .normalIs
-      ∙ sym (due-split j w (p .view .sent) (caught .upto) c (omega (arith, queuesBefore .behind)) (queuesBefore .read)
-      ∙ ap (λ l. l ++ due j w (caught .upto) c) (ap (due j w (p .view .sent)) (sym i≡u) ∙ sym q-due ∙ isEmpty-nil _ e))))
-      (λ (e : isEmpty (p .view .catchQueue ++ oneIf (wanted j w i (p .view)) i) ≡ false).
-      by-law (completed (caught .upto)) _ law (named false e)
-      (record {
-        behind = omega (arith, queuesBefore .behind);
-        read = queuesBefore .read;
-        some = e;
-        catchIs = q-due ∙ ap (due j w (p .view .sent)) i≡u;
-        normalIs = queuesBefore .normalIs;
+        read = is .read;
+        catchHas = holds-to (omega arith) after-has;
+        normalHas = is .normalHas;
       }))
-      (true-or-false (isEmpty (p .view .catchQueue ++ oneIf (wanted j w i (p .view)) i)))
 
-  pub keep-catch : Inv j c w (withView (fetched (wanted j w i (p .view)) i (caught .upto) (p .view)) p)
-  keep-catch = ⊎-elim last more (le-or-lt (caught .upto) i)
+  last : u ≤ i → Kept (fetched (wanted j w i (p .view)) i u view)
+  last h = subst⁻¹ Kept (fetched-last (wanted j w i (p .view)) i u view h) (by after (holds-to (omega (arith, is .order)) after-has))
+    where
+      by : (q′ : List ℕ) → Holds j w (p .view .sent) u q′ → Kept (requeue n q′ (cond (isEmpty q′) normal (completed u)) (p .view))
+      by [] has =
+          keep-requeue n [] normal inv refl
+          (record { ahead = omega (arith, is .behind, is .order, is .read); normalHas = holds-append (omega (arith, is .behind, is .order)) (is .read) has (is .normalHas) })
+      by (x ∷ q′) has =
+          keep-requeue n (x ∷ q′) (completed u) inv refl
+          (record { behind = omega (arith, is .behind, is .order); read = is .read; some = refl; catchHas = has; normalHas = is .normalHas })
+
+  keep-fetched : Kept (fetched (wanted j w i (p .view)) i u view)
+  keep-fetched = ⊎-elim last more (le-or-lt u i)
+
+pub keep-catch : (j : List Entry) (c w : ℕ) (p : Side) → Inv j c w p → (t : Term) (i : ℕ) (caught : Caught j w t i (p .view)) →
+    Inv j c w (withView (fetched (wanted j w i (p .view)) i (caught .upto) (p .view)) p)
+keep-catch j c w p inv t i caught =
+    let e = withQueues-same p (fetching i (caught .upto)) (caught .was) in
+    subst⁻¹ (λ x. Inv j c w (withView (fetched (wanted j w i (x .view)) i (caught .upto) (x .view)) x)) e
+    (keep-fetched j c w p (p .view .normalQueue) (p .view .catchQueue) i (caught .upto) (subst (Inv j c w) e inv))

@@ -4,6 +4,7 @@ pub mod Same
 pub mod Statement
 pub mod Examples
 pub mod Invariant
+pub mod Queued
 pub mod KeepMain
 pub mod KeepCatch
 pub mod Lines

@@ -11,10 +11,6 @@ use Rattle.rules.specs.Shape.{isEmpty}
 use Rattle.delivery.specs.World.{Sent, Ack, onLine}
 use Rattle.delivery.specs.Invariant.{lineEntries, endsOf, LineTerms, BackTerms}
 
-pub lastOr-some : (a b : ℕ) (xs : List ℕ) → isEmpty xs ≡ false → lastOr a xs ≡ lastOr b xs
-lastOr-some a b [] e = absurd (true≢false e)
-lastOr-some a b (x ∷ xs) e = refl
-
 -- ------------------------------------------------------------------------
 -- append
 

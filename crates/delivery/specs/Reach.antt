@@ -1,7 +1,6 @@
 -- Every world of a run is reached: the beginning is, and each step keeps it.
 use Prim.Native.Nat.{ℕ, suc, _%_, _≤_, _<_}
 use mathlib.Core.Path.{_≡_, refl, ap, subst, subst⁻¹, _∙_}
-use mathlib.Core.Logic.{⊎-elim}
 use mathlib.Core.List.{List, [], _∷_, _++_}
 use mathlib.Core.Bool.{true}
 use native.Mathlib.Omega.{arith}
@@ -9,18 +8,19 @@ use lib.ListN.{length}
 use lib.Dec.{eqb, leb}
 use borrow.Author.Tests.{leb-true}
 use Rattle.journal.specs.declared.Entry.{Entry}
-use Rattle.lists.specs.Cases.{eq-or-ne, and-right}
+use Rattle.lists.specs.Cases.{and-right}
+use Rattle.lists.specs.Set.{getD-set-each}
 use Rattle.journal.specs.Entry.{numbersOf, countOf}
 use Rattle.rules.specs.Shape.{shape}
 use Rattle.rules.specs.Offers.{shaped, append-shaped}
-use Rattle.delivery.specs.World.{Side, World, sideAt, numbersIn, playerIn, withSide, Step, step, run}
+use Rattle.delivery.specs.World.{Side, World, noSide, sideAt, numbersIn, playerIn, withSide, Step, step, run}
 use Rattle.delivery.specs.Invariant.{Inv, Reached}
 use Rattle.delivery.specs.KeepMain.{keep-main}
 use Rattle.delivery.specs.KeepCatch.{keep-catch}
 use Rattle.delivery.specs.KeepSend.{keep-send}
 use Rattle.delivery.specs.KeepLine.{keep-written, keep-ack, keep-take}
 use Rattle.delivery.specs.KeepFault.{keep-drop, keep-join, keep-start, keep-append}
-use Rattle.delivery.specs.Worlds.{count-in, withSide-here, withSide-other, withSide-count}
+use Rattle.delivery.specs.Worlds.{count-in, withSide-count}
 use Rattle.delivery.specs.Effects.{Worked, caught, sent, written, took, acked, Work, stays, mains, works, Restarted, Facts, working, dropping, joining, starting, appending}
 use Rattle.delivery.specs.SteppedAll.{step-facts}
 
@@ -40,11 +40,11 @@ few-in wd r =
 -- one side
 
 pub keep-worked : (j : List Entry) (c limit w : ℕ) (p p′ : Side) → c ≤ length j → length j ≤ 65535 → Inv j c w p → Worked j limit w p p′ → Inv j c w p′
-keep-worked j c limit w p p′ read few inv (caught t i k e) = subst⁻¹ (Inv j c w) e (keep-catch j c w p inv t i k)
-keep-worked j c limit w p p′ read few inv (sent size out e) = subst⁻¹ (Inv j c w) e (keep-send j c w p inv (out .here) read limit size out .inv)
-keep-worked j c limit w p p′ read few inv (written t off e) = subst⁻¹ (Inv j c w) e (keep-written j c w p inv t off)
-keep-worked j c limit w p p′ read few inv (took s rest front e) = subst⁻¹ (Inv j c w) e (keep-take j c w p inv few s rest front)
-keep-worked j c limit w p p′ read few inv (acked a rest front taken e) = subst⁻¹ (Inv j c w) e (keep-ack j c w p inv a rest front taken)
+keep-worked j c limit w p p′ read few inv (caught t i k e) = rw e (keep-catch j c w p inv t i k)
+keep-worked j c limit w p p′ read few inv (sent size out e) = rw e (keep-send j c w read p inv limit size out .inv)
+keep-worked j c limit w p p′ read few inv (written t off e) = rw e (keep-written inv)
+keep-worked j c limit w p p′ read few inv (took s rest front e) = rw e (keep-take inv few s rest front)
+keep-worked j c limit w p p′ read few inv (acked a rest front taken e) = rw e (keep-ack inv a rest front taken)
 
 -- ------------------------------------------------------------------------
 -- one side of a world replaced
@@ -56,13 +56,7 @@ replaced wd wd′ w p′ r h e s inv =
     (record {
       inShape = subst (λ x. shape (numbersIn x) (playerIn x) ≡ true) e s;
       each = λ v k.
-          ⊎-elim
-          (λ (same : v ≡ w).
-          subst⁻¹ (λ v. Inv (wd .journal) (wd .current) v (sideAt v (withSide w p′ wd))) same
-          (subst⁻¹ (Inv (wd .journal) (wd .current) w) (withSide-here w p′ wd h) inv))
-          (λ (other : v ≡ w → ⊥).
-          subst⁻¹ (Inv (wd .journal) (wd .current) v) (withSide-other w v p′ wd other) (r .each v (omega (arith, withSide-count w p′ wd))))
-          (eq-or-ne v w);
+          getD-set-each (Inv (wd .journal) (wd .current)) (wd .sides) w v p′ noSide h inv (λ n. r .each v (omega (arith, withSide-count w p′ wd)));
     })
 
 -- ------------------------------------------------------------------------
@@ -88,7 +82,7 @@ reached-restart wd wd′ r m = record {
       let h′ : w < length (wd .sides) = omega (arith, m .count) in
       subst⁻¹ (λ j. Inv j (wd′ .current) w (sideAt w wd′)) (m .journal)
       (subst⁻¹ (Inv (wd .journal) (wd′ .current) w) (m .each w h′)
-      (keep-start (wd .journal) (wd .current) (wd′ .current) w (sideAt w wd) (r .each w h′) (m .least w h′)));
+      (keep-start (r .each w h′) (m .least w h′)));
 }
 
 numbersOf-append : (j : List Entry) (e : Entry) → numbersOf (j ++ (e ∷ [])) ≡ numbersOf j ++ numbersOf (e ∷ [])
@@ -104,7 +98,7 @@ reached-append wd wd′ e r h is =
       inShape =
           ap (λ ns. shape ns (playerIn wd)) (numbersOf-append (wd .journal) e)
           ∙ append-shaped (numbersIn wd) e (playerIn wd) (r .inShape) (omega (arith, count-in wd));
-      each = λ w k. keep-append (wd .journal) e (wd .current) w (sideAt w wd) (read-in wd r) (r .each w k);
+      each = λ w k. keep-append (wd .journal) e w (read-in wd r) (r .each w k);
     })
 
 pub reached-step : (wd : World) (s : Step) → Reached wd → Reached (step s wd .world)
@@ -112,8 +106,8 @@ reached-step wd s r = by (step-facts wd (r .inShape) s)
   where
     by : Facts s wd → Reached (step s wd .world)
     by (working quiet work) = reached-work wd _ r work
-    by (dropping w is done h e sh) = replaced wd _ w _ r h e sh (keep-drop (wd .journal) (wd .current) w (sideAt w wd) (r .each w h))
-    by (joining w is done h away e sh) = replaced wd _ w _ r h e sh (keep-join (wd .journal) (wd .current) w (sideAt w wd) (r .each w h) away)
+    by (dropping w is done h e sh) = replaced wd _ w _ r h e sh (keep-drop (r .each w h))
+    by (joining w is done h away e sh) = replaced wd _ w _ r h e sh (keep-join (r .each w h) away)
     by (starting b is done m) = reached-restart wd _ r m
     by (appending e is done h same) = reached-append wd _ e r h same
 

@@ -1,225 +1,158 @@
 -- The tests of `Same` decide equality: a thing is the same as itself, and what is the same is equal.
 use Prim.Native.Nat.{ℕ, zero, suc}
-use mathlib.Core.Path.{_≡_, refl, sym, ap, ap₂}
+use mathlib.Core.Path.{_≡_, refl, sym, ap, ap₂, _∙_}
 use mathlib.Core.List.{List, [], _∷_}
-use mathlib.Core.Bool.{Bool, true, false, false≢true}
+use mathlib.Core.Bool.{Bool, true, false, _&&_, false≢true}
 use borrow.Author.Tests.{eqb-true, eq-eqb}
 use lib.ListN.{getD}
 use lib.Dec.{eqb}
 use Rattle.lists.specs.Cases.{and-left, and-right, and-intro}
-use Rattle.rules.specs.View.{normal, fetching, completed, suspended}
-use Rattle.delivery.specs.World.{Side, World, noSide, sideAt}
+use Rattle.record.specs.declared.Record.{Record}
+use Rattle.rules.specs.View.{Condition, normal, fetching, completed, suspended, WindowView}
+use Rattle.delivery.specs.World.{Sent, Ack, Side, World, noSide, sideAt}
 use Rattle.delivery.specs.Same.{sameBool, sameList, sameCondition, sameWindow, sameRace, sameRecord, sameEntry, sameSent, sameAck, sameSide, sameWorld}
 
--- a test that is true of equal things, and one that is true of no others
-abbrev Itself : {A : Type 0} → (A → A → Bool) → Type 0
-Itself {A} f = (a : A) → f a a ≡ true
-
-abbrev Equal : {A : Type 0} → (A → A → Bool) → Type 0
-Equal {A} f = (a b : A) → f a b ≡ true → a ≡ b
-
 -- ------------------------------------------------------------------------
--- numbers, tests, lists
+-- A test that decides equality; of a pair, of what a thing is made of, of a list
 
-eqb-itself : Itself eqb
-eqb-itself n = eq-eqb n n refl
+record Decides {A : Type 0} (f : A → A → Bool) : Type 0 where
+  itself : (a : A) → f a a ≡ true
+  equal : (a b : A) → f a b ≡ true → a ≡ b
 
-sameBool-itself : Itself sameBool
-sameBool-itself true = refl
-sameBool-itself false = refl
+infixr 20 _&_
+_&_ : {A B : Type 0} {f : A → A → Bool} {g : B → B → Bool} → Decides f → Decides g → Decides {A = A × B} (λ a b. f (a .0) (b .0) && g (a .1) (b .1))
+_&_ {f = f} d e = record {
+  itself = λ a. and-intro (d .itself (a .0)) (e .itself (a .1));
+  equal = λ a b h. ap₂ (λ x y. (x, y)) (d .equal _ _ (and-left _ _ h)) (e .equal _ _ (and-right (f (a .0) (b .0)) _ h));
+}
 
-sameBool-equal : Equal sameBool
-sameBool-equal true true e = refl
-sameBool-equal true false e = sym e
-sameBool-equal false true e = e
-sameBool-equal false false e = refl
+-- the test of its parts decides equality of what is made of them
+made-of : {A B : Type 0} {f : B → B → Bool} → Decides f → (parts : A → B) (made : B → A) → ((a : A) → made (parts a) ≡ a) →
+    Decides {A = A} (λ a b. f (parts a) (parts b))
+made-of d parts made back = record {
+  itself = λ a. d .itself (parts a);
+  equal = λ a b h. sym (back a) ∙ ap made (d .equal (parts a) (parts b) h) ∙ back b;
+}
 
-sameList-itself : {A : Type 0} (f : A → A → Bool) → Itself f → Itself (sameList f)
+itself-list : {A : Type 0} (f : A → A → Bool) → ((a : A) → f a a ≡ true) → (xs : List A) → sameList f xs xs ≡ true
 unfolding sameList
-sameList-itself f h [] = refl
-sameList-itself f h (x ∷ xs) = and-intro (h x) (sameList-itself f h xs)
+itself-list f h [] = refl
+itself-list f h (x ∷ xs) = and-intro (h x) (itself-list f h xs)
 
-sameList-equal : {A : Type 0} (f : A → A → Bool) → Equal f → Equal (sameList f)
+lists : {A : Type 0} {f : A → A → Bool} → Decides f → Decides (sameList f)
 unfolding sameList
-sameList-equal f h [] [] e = refl
-sameList-equal f h [] (y ∷ ys) e = absurd (false≢true e)
-sameList-equal f h (x ∷ xs) [] e = absurd (false≢true e)
-sameList-equal f h (x ∷ xs) (y ∷ ys) e = ap₂ (λ a b. a ∷ b) (h x y (and-left _ _ e)) (sameList-equal f h xs ys (and-right (f x y) _ e))
+lists {A} {f} d = record { itself = itself-list f (d .itself); equal = equal-list }
+  where
+    equal-list : (xs ys : List A) → sameList f xs ys ≡ true → xs ≡ ys
+    equal-list [] [] e = refl
+    equal-list [] (y ∷ ys) e = absurd (false≢true e)
+    equal-list (x ∷ xs) [] e = absurd (false≢true e)
+    equal-list (x ∷ xs) (y ∷ ys) e = ap₂ (λ a b. a ∷ b) (d .equal x y (and-left _ _ e)) (equal-list xs ys (and-right (f x y) _ e))
 
 -- ------------------------------------------------------------------------
--- a window as the player holds it
+-- The tests
 
-sameCondition-itself : Itself sameCondition
-sameCondition-itself normal = refl
-sameCondition-itself (fetching n e) = and-intro (eqb-itself n) (eqb-itself e)
-sameCondition-itself (completed e) = eqb-itself e
-sameCondition-itself suspended = refl
+numbers : Decides eqb
+numbers = record { itself = λ n. eq-eqb n n refl; equal = eqb-true }
 
-sameCondition-equal : Equal sameCondition
-sameCondition-equal normal normal h = refl
-sameCondition-equal normal (fetching n e) h = absurd (false≢true h)
-sameCondition-equal normal (completed e) h = absurd (false≢true h)
-sameCondition-equal normal suspended h = absurd (false≢true h)
-sameCondition-equal (fetching n e) normal h = absurd (false≢true h)
-sameCondition-equal (fetching n e) (fetching m f) h = ap₂ fetching (eqb-true n m (and-left _ _ h)) (eqb-true e f (and-right (eqb n m) _ h))
-sameCondition-equal (fetching n e) (completed f) h = absurd (false≢true h)
-sameCondition-equal (fetching n e) suspended h = absurd (false≢true h)
-sameCondition-equal (completed e) normal h = absurd (false≢true h)
-sameCondition-equal (completed e) (fetching m f) h = absurd (false≢true h)
-sameCondition-equal (completed e) (completed f) h = ap completed (eqb-true e f h)
-sameCondition-equal (completed e) suspended h = absurd (false≢true h)
-sameCondition-equal suspended normal h = absurd (false≢true h)
-sameCondition-equal suspended (fetching n e) h = absurd (false≢true h)
-sameCondition-equal suspended (completed e) h = absurd (false≢true h)
-sameCondition-equal suspended suspended h = refl
+flags : Decides sameBool
+flags = record { itself = itself-flag; equal = equal-flag }
+  where
+    itself-flag : (a : Bool) → sameBool a a ≡ true
+    itself-flag true = refl
+    itself-flag false = refl
 
-sameWindow-itself : Itself sameWindow
+    equal-flag : (a b : Bool) → sameBool a b ≡ true → a ≡ b
+    equal-flag true true e = refl
+    equal-flag true false e = sym e
+    equal-flag false true e = e
+    equal-flag false false e = refl
+
+conditions : Decides sameCondition
+conditions = record { itself = itself-condition; equal = equal-condition }
+  where
+    itself-condition : (s : Condition) → sameCondition s s ≡ true
+    itself-condition normal = refl
+    itself-condition (fetching n e) = and-intro (numbers .itself n) (numbers .itself e)
+    itself-condition (completed e) = numbers .itself e
+    itself-condition suspended = refl
+
+    equal-condition : (s s′ : Condition) → sameCondition s s′ ≡ true → s ≡ s′
+    equal-condition normal normal h = refl
+    equal-condition normal (fetching n e) h = absurd (false≢true h)
+    equal-condition normal (completed e) h = absurd (false≢true h)
+    equal-condition normal suspended h = absurd (false≢true h)
+    equal-condition (fetching n e) normal h = absurd (false≢true h)
+    equal-condition (fetching n e) (fetching m f) h = ap₂ fetching (eqb-true n m (and-left _ _ h)) (eqb-true e f (and-right (eqb n m) _ h))
+    equal-condition (fetching n e) (completed f) h = absurd (false≢true h)
+    equal-condition (fetching n e) suspended h = absurd (false≢true h)
+    equal-condition (completed e) normal h = absurd (false≢true h)
+    equal-condition (completed e) (fetching m f) h = absurd (false≢true h)
+    equal-condition (completed e) (completed f) h = ap completed (eqb-true e f h)
+    equal-condition (completed e) suspended h = absurd (false≢true h)
+    equal-condition suspended normal h = absurd (false≢true h)
+    equal-condition suspended (fetching n e) h = absurd (false≢true h)
+    equal-condition suspended (completed e) h = absurd (false≢true h)
+    equal-condition suspended suspended h = refl
+
+windows : Decides sameWindow
 unfolding sameWindow
-sameWindow-itself v =
-    and-intro (eqb-itself (v .term .0))
-    (and-intro (eqb-itself (v .acked))
-    (and-intro (eqb-itself (v .sent))
-    (and-intro (sameBool-itself (v .busy))
-    (and-intro (sameList-itself eqb eqb-itself (v .batches))
-    (and-intro (sameList-itself eqb eqb-itself (v .normalQueue))
-    (and-intro (sameList-itself eqb eqb-itself (v .catchQueue)) (sameCondition-itself (v .condition))))))))
+windows =
+    made-of (numbers & numbers & numbers & flags & lists numbers & lists numbers & lists numbers & conditions)
+    (λ v. (v .term .0, (v .acked, (v .sent, (v .busy, (v .batches, (v .normalQueue, (v .catchQueue, v .condition))))))))
+    (λ (t, (a, (s, (b, (u, (n, (q, c))))))). record {
+      term = record { 0 = t };
+      acked = a;
+      sent = s;
+      busy = b;
+      batches = u;
+      normalQueue = n;
+      catchQueue = q;
+      condition = c;
+    })
+    (λ v. refl)
 
-sameWindow-equal : Equal sameWindow
-unfolding sameWindow
-sameWindow-equal a b h =
-    let h1 = and-right (eqb (a .term .0) (b .term .0)) _ h in
-    let h2 = and-right (eqb (a .acked) (b .acked)) _ h1 in
-    let h3 = and-right (eqb (a .sent) (b .sent)) _ h2 in
-    let h4 = and-right (sameBool (a .busy) (b .busy)) _ h3 in
-    let h5 = and-right (sameList eqb (a .batches) (b .batches)) _ h4 in
-    let h6 = and-right (sameList eqb (a .normalQueue) (b .normalQueue)) _ h5 in
-    let h7 = and-right (sameList eqb (a .catchQueue) (b .catchQueue)) _ h6 in
-    let term : a .term .0 ≡ b .term .0 = eqb-true _ _ (and-left _ _ h) in
-    let acked : a .acked ≡ b .acked = eqb-true _ _ (and-left _ _ h1) in
-    let sent : a .sent ≡ b .sent = eqb-true _ _ (and-left _ _ h2) in
-    let busy : a .busy ≡ b .busy = sameBool-equal _ _ (and-left _ _ h3) in
-    let batches : a .batches ≡ b .batches = sameList-equal eqb eqb-true _ _ (and-left _ _ h4) in
-    let queue : a .normalQueue ≡ b .normalQueue = sameList-equal eqb eqb-true _ _ (and-left _ _ h5) in
-    let catch : a .catchQueue ≡ b .catchQueue = sameList-equal eqb eqb-true _ _ (and-left _ _ h6) in
-    let condition : a .condition ≡ b .condition = sameCondition-equal _ _ h7 in
-    λ i. record {
-      term = record { 0 = term i };
-      acked = acked i;
-      sent = sent i;
-      busy = busy i;
-      batches = batches i;
-      normalQueue = queue i;
-      catchQueue = catch i;
-      condition = condition i;
-    }
-
--- ------------------------------------------------------------------------
--- a record
-
-sameRace-itself : Itself sameRace
+races : Decides sameRace
 unfolding sameRace
-sameRace-itself r = and-intro (eqb-itself (r .off)) (and-intro (eqb-itself (r .price)) (sameBool-itself (r .closed)))
+races =
+    made-of (numbers & numbers & flags) (λ r. (r .off, (r .price, r .closed)))
+    (λ (o, (p, c)). record { off = o; price = p; closed = c }) (λ r. refl)
 
-sameRace-equal : Equal sameRace
-unfolding sameRace
-sameRace-equal a b h =
-    let h1 = and-right (eqb (a .off) (b .off)) _ h in
-    let off : a .off ≡ b .off = eqb-true _ _ (and-left _ _ h) in
-    let price : a .price ≡ b .price = eqb-true _ _ (and-left _ _ h1) in
-    let closed : a .closed ≡ b .closed = sameBool-equal _ _ (and-right (eqb (a .price) (b .price)) _ h1) in
-    λ i. record { off = off i; price = price i; closed = closed i }
-
-sameRecord-itself : Itself sameRecord
+records : Decides sameRecord
 unfolding sameRecord
-sameRecord-itself r = and-intro (eqb-itself (r .last .0)) (and-intro (eqb-itself (r .count)) (sameList-itself sameRace sameRace-itself (r .races)))
+records =
+    made-of (numbers & numbers & lists races) (λ r. (r .last .0, (r .count, r .races)))
+    (λ (l, (n, r)). record { last = record { 0 = l }; count = n; races = r }) (λ r. refl)
 
-sameRecord-equal : Equal sameRecord
-unfolding sameRecord
-sameRecord-equal a b h =
-    let h1 = and-right (eqb (a .last .0) (b .last .0)) _ h in
-    let last : a .last .0 ≡ b .last .0 = eqb-true _ _ (and-left _ _ h) in
-    let count : a .count ≡ b .count = eqb-true _ _ (and-left _ _ h1) in
-    let races : a .races ≡ b .races = sameList-equal sameRace sameRace-equal _ _ (and-right (eqb (a .count) (b .count)) _ h1) in
-    λ i. record { last = record { 0 = last i }; count = count i; races = races i }
+entries : Decides sameEntry
+unfolding sameEntry
+entries =
+    made-of (numbers & numbers & numbers & numbers) (λ e. (e .set, (e .kind, (e .race, e .value))))
+    (λ (s, (k, (r, v))). record { set = s; kind = k; race = r; value = v }) (λ e. refl)
+
+sents : Decides sameSent
+unfolding sameSent
+sents =
+    made-of (numbers & entries & numbers & flags) (λ s. (s .placed .index, (s .placed .entry, (s .term .0, s .ends))))
+    (λ (i, (e, (t, b))). record { placed = record { index = i; entry = e }; term = record { 0 = t }; ends = b }) (λ s. refl)
+
+acks : Decides sameAck
+unfolding sameAck
+acks = made-of (numbers & numbers) (λ a. (a .term .0, a .index)) (λ (t, i). record { term = record { 0 = t }; index = i }) (λ a. refl)
 
 -- ------------------------------------------------------------------------
--- the lines
+-- A side and a world: all but the history of what was taken
 
-sameEntry-itself : Itself sameEntry
-unfolding sameEntry
-sameEntry-itself e = and-intro (eqb-itself (e .set)) (and-intro (eqb-itself (e .kind)) (and-intro (eqb-itself (e .race)) (eqb-itself (e .value))))
+abbrev pub seen : Side → WindowView × (Record × (List Sent × List Ack))
+seen p = (p .view, (p .record′, (p .line, p .back)))
 
-sameEntry-equal : Equal sameEntry
-unfolding sameEntry
-sameEntry-equal a b h =
-    let h1 = and-right (eqb (a .set) (b .set)) _ h in
-    let h2 = and-right (eqb (a .kind) (b .kind)) _ h1 in
-    let set : a .set ≡ b .set = eqb-true _ _ (and-left _ _ h) in
-    let kind : a .kind ≡ b .kind = eqb-true _ _ (and-left _ _ h1) in
-    let race : a .race ≡ b .race = eqb-true _ _ (and-left _ _ h2) in
-    let value : a .value ≡ b .value = eqb-true _ _ (and-right (eqb (a .race) (b .race)) _ h2) in
-    λ i. record { set = set i; kind = kind i; race = race i; value = value i }
-
-sameSent-itself : Itself sameSent
-unfolding sameSent
-sameSent-itself s =
-    and-intro (eqb-itself (s .placed .index)) (and-intro (sameEntry-itself (s .placed .entry)) (and-intro (eqb-itself (s .term .0)) (sameBool-itself (s .ends))))
-
-sameSent-equal : Equal sameSent
-unfolding sameSent
-sameSent-equal a b h =
-    let h1 = and-right (eqb (a .placed .index) (b .placed .index)) _ h in
-    let h2 = and-right (sameEntry (a .placed .entry) (b .placed .entry)) _ h1 in
-    let index : a .placed .index ≡ b .placed .index = eqb-true _ _ (and-left _ _ h) in
-    let entry : a .placed .entry ≡ b .placed .entry = sameEntry-equal _ _ (and-left _ _ h1) in
-    let term : a .term .0 ≡ b .term .0 = eqb-true _ _ (and-left _ _ h2) in
-    let ends : a .ends ≡ b .ends = sameBool-equal _ _ (and-right (eqb (a .term .0) (b .term .0)) _ h2) in
-    λ i. record { placed = record { index = index i; entry = entry i }; term = record { 0 = term i }; ends = ends i }
-
-sameAck-itself : Itself sameAck
-unfolding sameAck
-sameAck-itself a = and-intro (eqb-itself (a .term .0)) (eqb-itself (a .index))
-
-sameAck-equal : Equal sameAck
-unfolding sameAck
-sameAck-equal a b h =
-    let term : a .term .0 ≡ b .term .0 = eqb-true _ _ (and-left _ _ h) in
-    let index : a .index ≡ b .index = eqb-true _ _ (and-right (eqb (a .term .0) (b .term .0)) _ h) in
-    λ i. record { term = record { 0 = term i }; index = index i }
-
--- ------------------------------------------------------------------------
--- a side, a world
-
-sameSide-itself : Itself sameSide
+sameSide-itself : (p : Side) → sameSide p p ≡ true
 unfolding sameSide
-sameSide-itself p =
-    and-intro (sameWindow-itself (p .view))
-    (and-intro (sameRecord-itself (p .record′))
-    (and-intro (sameList-itself sameSent sameSent-itself (p .line)) (sameList-itself sameAck sameAck-itself (p .back))))
+sameSide-itself p = (windows & records & lists sents & lists acks) .itself (seen p)
 
--- all of a side but the history of what was taken
-pub record SideIs (a b : Side) : Type 0 where
-  pub view : a .view ≡ b .view
-  pub record′ : a .record′ ≡ b .record′
-  pub line : a .line ≡ b .line
-  pub back : a .back ≡ b .back
-
-pub sameSide-equal : (a b : Side) → sameSide a b ≡ true → SideIs a b
+sameSide-equal : (a b : Side) → sameSide a b ≡ true → seen a ≡ seen b
 unfolding sameSide
-sameSide-equal a b h =
-    let h1 = and-right (sameWindow (a .view) (b .view)) _ h in
-    let h2 = and-right (sameRecord (a .record′) (b .record′)) _ h1 in
-    record {
-      view = sameWindow-equal _ _ (and-left _ _ h);
-      record′ = sameRecord-equal _ _ (and-left _ _ h1);
-      line = sameList-equal sameSent sameSent-equal _ _ (and-left _ _ h2);
-      back = sameList-equal sameAck sameAck-equal _ _ (and-right (sameList sameSent (a .line) (b .line)) _ h2);
-    }
-
-pub sameWorld-itself : (wd : World) → sameWorld wd wd ≡ true
-unfolding sameWorld
-sameWorld-itself wd =
-    and-intro (eqb-itself (wd .limit)) (and-intro (eqb-itself (wd .current)) (sameList-itself sameSide sameSide-itself (wd .sides)))
+sameSide-equal a b = (windows & records & lists sents & lists acks) .equal (seen a) (seen b)
 
 sides-at : (a b : List Side) (w : ℕ) → sameList sameSide a b ≡ true → sameSide (getD a w noSide) (getD b w noSide) ≡ true
 unfolding sameList
@@ -229,19 +162,21 @@ sides-at (x ∷ xs) [] w h = absurd (false≢true h)
 sides-at (x ∷ xs) (y ∷ ys) zero h = and-left _ _ h
 sides-at (x ∷ xs) (y ∷ ys) (suc w) h = sides-at xs ys w (and-right (sameSide x y) _ h)
 
--- what looks the same has the same limit, the same `current`, and at each side the same window, record and lines
+pub sameWorld-itself : (wd : World) → sameWorld wd wd ≡ true
+unfolding sameWorld
+sameWorld-itself wd =
+    and-intro (numbers .itself (wd .limit)) (and-intro (numbers .itself (wd .current)) (itself-list sameSide sameSide-itself (wd .sides)))
+
+-- what looks the same has the same `current`, and at each side the same window, record and lines
 pub record WorldIs (a b : World) : Type 0 where
-  pub limit : a .limit ≡ b .limit
   pub current : a .current ≡ b .current
-  pub sides : (w : ℕ) → SideIs (sideAt w a) (sideAt w b)
+  pub sides : (w : ℕ) → seen (sideAt w a) ≡ seen (sideAt w b)
 
 pub sameWorld-equal : (a b : World) → sameWorld a b ≡ true → WorldIs a b
 unfolding sameWorld
 sameWorld-equal a b h =
-    let h1 = and-right (eqb (a .limit) (b .limit)) _ h in
+    let rest = and-right (eqb (a .limit) (b .limit)) _ h in
     record {
-      limit = eqb-true _ _ (and-left _ _ h);
-      current = eqb-true _ _ (and-left _ _ h1);
-      sides = λ w.
-          sameSide-equal (sideAt w a) (sideAt w b) (sides-at (a .sides) (b .sides) w (and-right (eqb (a .current) (b .current)) _ h1));
+      current = eqb-true _ _ (and-left _ _ rest);
+      sides = λ w. sameSide-equal _ _ (sides-at (a .sides) (b .sides) w (and-right (eqb (a .current) (b .current)) _ rest));
     }

@@ -8,6 +8,7 @@ use lib.ListN.{length, getD, set, length-set, length-map, List·getD-map}
 use lib.Seq.{getD-set-same, getD-set-other, set-set, set-getD}
 use Rattle.journal.specs.Entry.{countOf, entriesOf}
 use Rattle.journal.specs.EntryLaws.{entriesOf-length, entriesOf-numbersOf}
+use Rattle.lists.specs.Set.{map-set}
 use Rattle.rules.specs.View.{WindowView, noWindow, PlayerView}
 use Rattle.rules.specs.Rules.{windowAt, withWindow}
 use Rattle.delivery.specs.World.{Side, World, noSide, sideAt, numbersIn, playerIn, withView, withViews, withPlayer, withSide}
@@ -33,12 +34,20 @@ windows-in wd = length-map (wd .sides) (λ p. p .view)
 -- ------------------------------------------------------------------------
 -- withViews, withPlayer
 
+-- a world with other sides, a player with other windows
+abbrev withSides : World → List Side → World
+withSides wd ps = record { journal = wd .journal; limit = wd .limit; current = wd .current; sides = ps }
+
+abbrev withWindows : PlayerView → List WindowView → PlayerView
+withWindows q vs = record { limit = q .limit; current = q .current; windows = vs }
+
 withViews-same : (ps : List Side) → withViews (map (λ p. p .view) ps) ps ≡ ps
 unfolding withViews
 withViews-same [] = refl
 withViews-same (p ∷ ps) = ap (λ l. p ∷ l) (withViews-same ps)
 
-withViews-set : (ps : List Side) (w : ℕ) (v : WindowView) → withViews (set (map (λ p. p .view) ps) w v) ps ≡ set ps w (withView v (getD ps w noSide))
+withViews-set : (ps : List Side) (w : ℕ) (v : WindowView) →
+    withViews (set (map (λ p. p .view) ps) w v) ps ≡ set ps w (withView v (getD ps w noSide))
 unfolding withViews
 withViews-set [] w v = refl
 withViews-set (p ∷ ps) zero v = ap (λ l. withView v p ∷ l) (withViews-same ps)
@@ -70,22 +79,19 @@ withViews-views (v ∷ vs) (p ∷ ps) e = ap (λ l. v ∷ l) (withViews-views vs
 pub withPlayer-same : (wd : World) (q : PlayerView) → q ≡ playerIn wd → withPlayer q wd ≡ wd
 unfolding withPlayer
 withPlayer-same wd q e =
-    ap (λ q. withPlayer q wd) e
-    ∙ ap (λ ps. record { journal = wd .journal; limit = wd .limit; current = wd .current; sides = ps }) (withViews-same (wd .sides))
+    ap (λ q. withPlayer q wd) e ∙ ap (withSides wd) (withViews-same (wd .sides))
 
 -- a turn of window w
 pub withPlayer-window : (wd : World) (q : PlayerView) (w : ℕ) (v : WindowView) → q ≡ withWindow w v (playerIn wd) →
     withPlayer q wd ≡ withSide w (withView v (sideAt w wd)) wd
 unfolding withPlayer
 withPlayer-window wd q w v e =
-    ap (λ q. withPlayer q wd) e
-    ∙ ap (λ ps. record { journal = wd .journal; limit = wd .limit; current = wd .current; sides = ps }) (withViews-set (wd .sides) w v)
+    ap (λ q. withPlayer q wd) e ∙ ap (withSides wd) (withViews-set (wd .sides) w v)
 
 -- the player that a rule leaves is then the player in the world
 pub withPlayer-player : (wd : World) (q : PlayerView) → length (q .windows) ≡ length (wd .sides) → playerIn (withPlayer q wd) ≡ q
 unfolding withPlayer
-withPlayer-player wd q e =
-    ap (λ vs. record { limit = q .limit; current = q .current; windows = vs }) (withViews-views (q .windows) (wd .sides) e)
+withPlayer-player wd q e = ap (withWindows q) (withViews-views (q .windows) (wd .sides) e)
 
 -- ------------------------------------------------------------------------
 -- withSide
@@ -99,21 +105,15 @@ withSide-other w v p wd n = getD-set-other (wd .sides) w v p noSide n
 pub withSide-count : (w : ℕ) (p : Side) (wd : World) → length (withSide w p wd .sides) ≡ length (wd .sides)
 withSide-count w p wd = length-set (wd .sides) w p
 
-map-set : (ps : List Side) (w : ℕ) (p : Side) → map (λ p. p .view) (set ps w p) ≡ set (map (λ p. p .view) ps) w (p .view)
-map-set [] w p = refl
-map-set (x ∷ ps) zero p = refl
-map-set (x ∷ ps) (suc w) p = ap (λ l. x .view ∷ l) (map-set ps w p)
-
 -- the player then has that side's window
 pub withSide-player : (w : ℕ) (p : Side) (wd : World) → playerIn (withSide w p wd) ≡ withWindow w (p .view) (playerIn wd)
-withSide-player w p wd = ap (λ vs. record { limit = wd .limit; current = wd .current; windows = vs }) (map-set (wd .sides) w p)
+withSide-player w p wd = ap (withWindows (playerIn wd)) (map-set (λ p. p .view) (wd .sides) w p)
 
 pub withSide-twice : (w : ℕ) (a b : Side) (wd : World) → withSide w b (withSide w a wd) ≡ withSide w b wd
-withSide-twice w a b wd =
-    ap (λ ps. record { journal = wd .journal; limit = wd .limit; current = wd .current; sides = ps }) (set-set (wd .sides) w a b)
+withSide-twice w a b wd = ap (withSides wd) (set-set (wd .sides) w a b)
 
 -- the window that was there changes nothing
 pub withWindow-same : (w : ℕ) (wd : World) → withWindow w (sideAt w wd .view) (playerIn wd) ≡ playerIn wd
 withWindow-same w wd =
     ap (λ v. withWindow w v (playerIn wd)) (sym (window-in w wd))
-    ∙ ap (λ vs. record { limit = wd .limit; current = wd .current; windows = vs }) (set-getD (playerIn wd .windows) w noWindow)
+    ∙ ap (withWindows (playerIn wd)) (set-getD (playerIn wd .windows) w noWindow)

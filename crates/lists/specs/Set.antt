@@ -1,0 +1,22 @@
+-- A list with one item replaced: what holds at each place, and what a map makes of it.
+use Prim.Native.Nat.{ℕ, zero, suc, _<_}
+use mathlib.Core.Path.{_≡_, refl, ap, subst⁻¹}
+use mathlib.Core.Logic.{⊎-elim}
+use mathlib.Core.List.{List, [], _∷_, map}
+use lib.ListN.{length, getD, set}
+use lib.Seq.{getD-set-same, getD-set-other}
+use Rattle.lists.specs.Cases.{eq-or-ne}
+
+-- what holds of the new item at its place, and at place k of the old list where k is another place, holds at place k of the new list
+pub getD-set-each : {A : Type 0} (P : ℕ → A → Type 0) (l : List A) (i k : ℕ) (a d : A) → i < length l → P i a →
+    ((k ≡ i → ⊥) → P k (getD l k d)) → P k (getD (set l i a) k d)
+getD-set-each P l i k a d h new old =
+    ⊎-elim
+    (λ (e : k ≡ i). subst⁻¹ (λ n. P n (getD (set l i a) n d)) e (subst⁻¹ (P i) (getD-set-same l i a d h) new))
+    (λ (n : k ≡ i → ⊥). subst⁻¹ (P k) (getD-set-other l i k a d n) (old n))
+    (eq-or-ne k i)
+
+pub map-set : {A B : Type 0} (f : A → B) (l : List A) (i : ℕ) (a : A) → map f (set l i a) ≡ set (map f l) i (f a)
+map-set f [] i a = refl
+map-set f (x ∷ l) zero a = refl
+map-set f (x ∷ l) (suc i) a = ap (λ m. f x ∷ m) (map-set f l i a)
