@@ -6,4 +6,3 @@ pub mod Elem
 pub mod Rising
 pub mod Set
 pub mod Over
-pub mod Replaced

@@ -16,6 +16,15 @@ getD-set-each P l i k a d h new old =
     (λ (n : k ≡ i → ⊥). subst⁻¹ (P k) (getD-set-other l i k a d n) (old n))
     (eq-or-ne k i)
 
+-- a relation that every item has to itself, and the item at place i to the new one, is one of the old list to the new at every place
+pub getD-set-related : {A : Type 0} (R : A → A → Type 0) → ((x : A) → R x x) → (l : List A) (i k : ℕ) (a d : A) →
+    R (getD l i d) a → R (getD l k d) (getD (set l i a) k d)
+getD-set-related R same [] i k a d h = same d
+getD-set-related R same (x ∷ l) zero zero a d h = h
+getD-set-related R same (x ∷ l) zero (suc k) a d h = same (getD l k d)
+getD-set-related R same (x ∷ l) (suc i) zero a d h = same x
+getD-set-related R same (x ∷ l) (suc i) (suc k) a d h = getD-set-related R same l i k a d h
+
 pub map-set : {A B : Type 0} (f : A → B) (l : List A) (i : ℕ) (a : A) → map f (set l i a) ≡ set (map f l) i (f a)
 map-set f [] i a = refl
 map-set f (x ∷ l) zero a = refl

@@ -1,16 +1,17 @@
 -- How a rule of the player reaches its windows: an operation on one window (`operate`), and every window by its own rule (`mapWindows`).
 use Prim.Native.Nat.{ℕ, zero, suc, _+_, _≤_, _<_}
 use mathlib.Core.Path.{_≡_, refl, sym, ap, subst⁻¹, _∙_}
-use mathlib.Core.Logic.{_⊎_, inl, inr, ⊎-elim}
+use mathlib.Core.Logic.{⊎-elim}
 use mathlib.Core.List.{List, [], _∷_}
 use mathlib.Core.Bool.{Bool, true, false, not, cond}
 use native.Mathlib.Omega.{arith}
 use borrow.Author.Tests.{ltb-true, lt-ltb}
 use lib.ListN.{length, set, getD, length-set}
-use lib.Seq.{set-getD, getD-set-same, getD-set-other}
+use lib.Seq.{set-getD}
 use lib.Dec.{ltb}
 use Rattle.journal.specs.declared.Entry.{Entry}
 use Rattle.lists.specs.Cases.{eq-or-ne}
+use Rattle.lists.specs.Set.{getD-set-each}
 use Rattle.journal.specs.Entry.{countOf, entriesOf}
 use Rattle.rules.specs.View.{WindowView, PlayerView, noWindow}
 use Rattle.rules.specs.Shape.{shape}
@@ -52,9 +53,9 @@ module _ (ns : List ℕ) (w : ℕ) (f : WindowView → Turn) (p : PlayerView) wh
   operate-can v′ s h e = simp (s, lt-ltb w (length (p .windows)) h) (ap (λ t. t .answer) e)
 
 -- one window replaced by another in shape
-withWindow-shaped : (ns : List ℕ) (p : PlayerView) → shape ns p ≡ true → (w : ℕ) (v : WindowView) → WindowShaped (countOf ns) (p .current) v →
-    shape ns (withWindow w v p) ≡ true
-withWindow-shaped ns p s w v h =
+withWindow-shaped : (ns : List ℕ) (p : PlayerView) → shape ns p ≡ true → (w : ℕ) (v : WindowView) → w < length (p .windows) →
+    WindowShaped (countOf ns) (p .current) v → shape ns (withWindow w v p) ≡ true
+withWindow-shaped ns p s w v l h =
     let f : Shaped ns p = shaped ns p s in
     let n : length (set (p .windows) w v) ≡ length (p .windows) = length-set (p .windows) w v in
     shape-of ns (withWindow w v p)
@@ -65,13 +66,8 @@ withWindow-shaped ns p s w v h =
       limitMost = f .limitMost;
       journal = f .journal;
       currentIn = f .currentIn;
-      windows = λ u l. at f u (rw n at l) (eq-or-ne u w);
+      windows = λ u k. getD-set-each (λ u. WindowShaped (countOf ns) (p .current)) (p .windows) w u v noWindow l h (λ other. f .windows u (rw n at k));
     })
-  where
-    at : Shaped ns p → (u : ℕ) → u < length (p .windows) → (u ≡ w) ⊎ (u ≡ w → ⊥) →
-        WindowShaped (countOf ns) (p .current) (getD (set (p .windows) w v) u noWindow)
-    at f u l (inl e) = rw e (rw (getD-set-same (p .windows) w v noWindow (rw e at l)) h)
-    at f u l (inr e) = rw (getD-set-other (p .windows) w u v noWindow e) (f .windows u l)
 
 -- ------------------------------------------------------------------------
 -- the law of an operation on a window
@@ -117,7 +113,7 @@ operate-lawful ns w f p x law =
           (λ e. absurd (omega arith))
           (λ e. absurd (omega arith))
           (λ s h e. record { shaped = s; within = h; turn = law .does e; next = ap (λ v. withWindow w v p) (law .next e) });
-      shaped = λ s. operate-cases ns w f p (λ o. shape ns (o .next) ≡ true) s s (λ e h. withWindow-shaped ns p s w _ (turn s h));
+      shaped = λ s. operate-cases ns w f p (λ o. shape ns (o .next) ≡ true) s s (λ e h. withWindow-shaped ns p s w _ h (turn s h));
     }
   where
     turn : shape ns p ≡ true → w < length (p .windows) → WindowShaped (countOf ns) (p .current) (f (windowAt w p) .next)
