@@ -19,7 +19,7 @@ use Rattle.rules.specs.Shape.{shape}
 use Rattle.rules.specs.Shaped.{shaped}
 use Rattle.rules.specs.Window.{Turn, wanted, enqueue, mainAt, fetched, batchOf, launched, freed, acknowledged, dropped, joined}
 use Rattle.rules.specs.Turns.{Refuses, Caught, catchAt-refuses, catchAt-done, SentOut, sendAt-refuses, sendAt-done, WrittenOff, writtenAt-refuses, writtenAt-done, AckTaken, ackAt-refuses, ackAt-done, DroppedOff, dropAt-refuses, dropAt-done, JoinedOn, joinAt-refuses, joinAt-done}
-use Rattle.rules.specs.Rules.{Outcome, refuse, windowAt, withWindow, turned, operate, mapWindows, mainRule, catchRule, writtenRule, ackRule, dropRule, joinRule, sendRule}
+use Rattle.rules.specs.Rules.{Outcome, refuse, windowAt, withWindow, turnAt, operate, mapWindows, mainRule, catchRule, writtenRule, ackRule, dropRule, joinRule, sendRule}
 
 -- ------------------------------------------------------------------------
 -- operate
@@ -35,17 +35,17 @@ pub record Operated (ns : List ℕ) (w : ℕ) (p : PlayerView) (o : Outcome) (T 
 module _ (ns : List ℕ) (w : ℕ) (f : WindowView → Turn) (p : PlayerView) where
   -- what holds of both refusals and, in shape and at a window that is there, of the window's turn, holds of the operation
   pub operate-cases : (P : Outcome → Type 0) → P (refuse 1 p) → P (refuse 2 p) →
-      (shape ns p ≡ true → w < length (p .windows) → P (turned w (f (windowAt w p)) p)) → P (operate ns w f p)
+      (shape ns p ≡ true → w < length (p .windows) → P (turnAt w (f (windowAt w p)) p)) → P (operate ns w f p)
   unfolding operate
   operate-cases P one two three = go (shape ns p) refl (ltb w (length (p .windows))) refl
     where
       go : (s : Bool) → shape ns p ≡ s → (b : Bool) → ltb w (length (p .windows)) ≡ b →
-          P (cond (not s) (refuse 1 p) (cond (not b) (refuse 2 p) (turned w (f (windowAt w p)) p)))
+          P (cond (not s) (refuse 1 p) (cond (not b) (refuse 2 p) (turnAt w (f (windowAt w p)) p)))
       go true s true b = three s (ltb-true _ _ b)
       go true s false b = two
       go false s t b = one
 
-  pub operate-in : shape ns p ≡ true → w < length (p .windows) → operate ns w f p ≡ turned w (f (windowAt w p)) p
+  pub operate-in : shape ns p ≡ true → w < length (p .windows) → operate ns w f p ≡ turnAt w (f (windowAt w p)) p
   unfolding operate
   operate-in s h = simp (s, lt-ltb w (length (p .windows)) h)
 
