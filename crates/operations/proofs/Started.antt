@@ -15,18 +15,19 @@ use Rattle.player.specs.View.{firstWindows, playerOf}
 use Rattle.rules.specs.Shape.{countFits, limitFits}
 use Rattle.rules.specs.Window.{started}
 use Rattle.rules.specs.Rules.{areReports, least, startRule}
+use Rattle.rules.specs.Starts.{startNext}
 use Rattle.player.specs.Promise.{Meets}
 use Rattle.operations.specs.Starting.{startFits}
 use Rattle.player.proofs.Refused.{refuse-meets}
 
-module _ (ns : List ℕ) (count limit : ℕ) (reports : List ℕ) where
-  -- 1 to 16 reports, as many as windows
-  pub record Counted : Type 0 where
-    pub some : 1 ≤ length reports
-    pub few : length reports ≤ 16
-    pub same : length reports ≡ count
+-- 1 to 16 reports, as many as windows
+pub record Counted (count : ℕ) (reports : List ℕ) : Type 0 where
+  pub some : 1 ≤ length reports
+  pub few : length reports ≤ 16
+  pub same : length reports ≡ count
 
-  pub counted : startFits ns count limit reports ≡ true → Counted
+module _ (ns : List ℕ) (count limit : ℕ) (reports : List ℕ) where
+  pub counted : startFits ns count limit reports ≡ true → Counted count reports
   counted h =
       let a = and-left (countFits count) _ h in
       let b = and-right (inShape ns) _ (and-right (limitFits limit) _ (and-right (countFits count) _ h)) in
@@ -47,14 +48,14 @@ module _ (ns : List ℕ) (count limit : ℕ) (reports : List ℕ) where
       unfolding startRule
       start-refused b = refuse-meets p BadReport _ (rw (h, b))
 
-      pub start-done : areReports (entriesOf ns) 0 reports ≡ true → (r : Player) → playerOf r ≡ record { limit = limit; current = least reports; windows = map started reports } →
+      pub start-done : areReports (entriesOf ns) 0 reports ≡ true → (r : Player) → playerOf r ≡ startNext limit reports →
           Meets p (record { answer = Done; player = r }) (startRule ns count limit reports (playerOf p))
       unfolding startRule
       start-done b r e = rw (h, b) (record { answer = refl; next = e; unchanged = λ x. absurd (x refl) })
 
-  -- the player that code makes, from its parts
-  pub started-view : (r : Player) → r .count ≡ length reports → r .current .0 ≡ least reports → firstWindows (length reports) (r .windows) ≡ map started reports →
-      playerOf r ≡ record { limit = r .limit; current = least reports; windows = map started reports }
-  unfolding playerOf
-  started-view r c l w =
-      ap₂ (λ i ws. record { limit = r .limit; current = i; windows = ws }) l (ap (λ n. firstWindows n (r .windows)) c ∙ w)
+-- the player that code makes, from its parts
+pub started-view : (reports : List ℕ) (r : Player) → r .count ≡ length reports → r .current .0 ≡ least reports →
+    firstWindows (length reports) (r .windows) ≡ map started reports → playerOf r ≡ startNext (r .limit) reports
+unfolding playerOf
+started-view reports r c l w =
+    ap₂ (λ i ws. record { limit = r .limit; current = i; windows = ws }) l (ap (λ n. firstWindows n (r .windows)) c ∙ w)

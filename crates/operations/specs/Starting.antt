@@ -58,7 +58,8 @@ areReports-end j rs w l = rw (drop-of-length-le rs {i = w} l)
 -- ------------------------------------------------------------------------
 -- firstWindows
 
-firstWindows-push : (w : ℕ) (ws : List Window) (x : Window) → w < length ws → firstWindows (suc w) (set ws w x) ≡ firstWindows w ws ++ (viewOf x ∷ [])
+firstWindows-push : (w : ℕ) (ws : List Window) (x : Window) → w < length ws →
+    firstWindows (suc w) (set ws w x) ≡ firstWindows w ws ++ (viewOf x ∷ [])
 unfolding firstWindows
 firstWindows-push zero [] x h = absurd (not-suc-le-zero h)
 firstWindows-push zero (y ∷ ws) x h = refl
@@ -67,5 +68,6 @@ firstWindows-push (suc w) (y ∷ ws) x h = ap (λ (t : List WindowView). viewOf 
 
 -- one more fresh window, from its report
 pub firstWindows-started : (w : ℕ) (ws : List Window) (x : Window) (rs : List ℕ) → w < length ws → w < length rs →
-    viewOf x ≡ started (getD rs w 0) → firstWindows w ws ≡ map started (take w rs) → firstWindows (w + 1) (set ws w x) ≡ map started (take (w + 1) rs)
+    viewOf x ≡ started (getD rs w 0) → firstWindows w ws ≡ map started (take w rs) →
+    firstWindows (w + 1) (set ws w x) ≡ map started (take (w + 1) rs)
 firstWindows-started w ws x rs h l e p = rw (add-one, firstWindows-push w ws x h, take-suc rs w 0 l, map-append, e, p)

@@ -28,14 +28,13 @@ pub record Holds (p : Player) (w : ℕ) (x : Window) : Type 0 where
   pub places : length (p .windows) ≡ 16
   pub at : (d : Window) → x ≡ getD (p .windows) w d
 
+-- the player with a window stored in place w
+abbrev pub withStored : Player → ℕ → Window → Player
+withStored p w x = record { count = p .count; limit = p .limit; current = p .current; windows = set (p .windows) w x }
+
 -- the player with a window's turn stored, or as it was where the answer is a refusal
 abbrev pub stored : Player → ℕ → Turned → Played
-stored p w t = record {
-  answer = t .answer;
-  player = cond (eqb (numberOf (t .answer)) 0)
-      (record { count = p .count; limit = p .limit; current = p .current; windows = set (p .windows) w (t .window) })
-      p;
-}
+stored p w t = record { answer = t .answer; player = cond (eqb (numberOf (t .answer)) 0) (withStored p w (t .window)) p }
 
 -- Main at a window by itself
 abbrev pub mainBy : List Entry → ℕ → ℕ → WindowView → WindowView

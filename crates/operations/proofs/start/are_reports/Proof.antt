@@ -25,11 +25,9 @@ turn : (c : tie.After-is-start-report Inv-loop μ-loop) →
     let next = c .before .before .before .loop .next in
     areReports j 0 (args .reports .now) ≡ (c .is-start-report .result && areReports j (next + 1) (drop (next + 1) (args .reports .now)))
 turn c =
-    let args = c .before .before .before .before .before .before .args in
-    let next = c .before .before .before .loop .next in
     c .before .before .before .loop .inv .1
     ∙ areReports-at _ _ _ (c .before .before .loop-test .taken)
-    ∙ ap (λ b. b && areReports (entriesOf (args .journal .now)) (next + 1) (drop (next + 1) (args .reports .now))) (sym (c .is-start-report .ensures))
+    ∙ rw (← c .is-start-report .ensures)
 
 loop-holds : tie.Need-loop-holds Inv-loop μ-loop
 loop-holds c = (search needs, refl)

@@ -8,34 +8,27 @@ use Rattle.operations.proofs.Started.{Counted, counted, start-shapeless
 use Rattle.operations.proofs.start.start_on.Statement.{statement}
 use Rattle.operations.proofs.start.start_on.Tie as tie
 
-abbrev start : tie.Else1 → tie.Start
-start c = c .before .before .before .before
-
 -- the first checks pass
 fit : (c : tie.Else1) →
-    let args = start c .args in
+    let args = c .before .before .before .before .args in
     startFits (args .journal .now) (args .count) (args .limit) (args .reports .now) ≡ true
 fit c = sym (c .before .start-in-shape .ensures) ∙ not-false _ (c .if1 .left)
 
-few : (c : tie.Else1) → let args = start c .args in Counted (args .journal .now) (args .count) (args .limit) (args .reports .now)
-few c = counted _ _ _ _ (fit c)
+few : (c : tie.Else1) → let args = c .before .before .before .before .args in Counted (args .count) (args .reports .now)
+few c = let args = c .before .before .before .before .args in counted (args .journal .now) _ (args .limit) _ (fit c)
 
 start-in-shape-requires : tie.Need-start-in-shape-requires
 start-in-shape-requires c κs = search needs
 
 returns : tie.Need-returns
-returns c =
-    let args = c .before .before .before .before .args in
-    start-shapeless (args .journal .now) (args .count) (args .limit) (args .reports .now) (args .player) (sym (c .before .start-in-shape .ensures) ∙ not-true _ (c .if1 .taken))
+returns c = start-shapeless _ _ _ _ _ (sym (c .before .start-in-shape .ensures) ∙ not-true _ (c .if1 .taken))
 
 are-reports-requires : tie.Need-are-reports-requires
 are-reports-requires c κs = few c .few
 
 returns-2 : tie.Need-returns-2
 returns-2 c =
-    let fitted = c .before .before in
-    let args = start fitted .args in
-    start-refused (args .journal .now) (args .count) (args .limit) (args .reports .now) (args .player) (fit fitted) (sym (c .before .are-reports .ensures) ∙ not-true _ (c .if2 .taken))
+    start-refused _ _ _ _ _ (fit (c .before .before)) (sym (c .before .are-reports .ensures) ∙ not-true _ (c .if2 .taken))
 
 least-requires : tie.Need-least-requires
 least-requires c κs = few (c .before .before) .some
@@ -47,9 +40,8 @@ returns-3 : tie.Need-returns-3
 returns-3 c =
     let own = c .before .before in
     let fitted = own .before .before in
-    let args = start fitted .args in
-    start-done (args .journal .now) (args .count) (args .limit) (args .reports .now) (args .player) (fit fitted) (sym (own .before .are-reports .ensures) ∙ not-false _ (own .if2 .left)) _
-    (started-view (args .journal .now) (args .count) (args .limit) (args .reports .now) _ (sym (few fitted .same)) (c .before .least .ensures) (c .windows-of .ensures))
+    start-done _ _ _ _ _ (fit fitted) (sym (own .before .are-reports .ensures) ∙ not-false _ (own .if2 .left)) _
+    (started-view _ _ (sym (few fitted .same)) (c .before .least .ensures) (c .windows-of .ensures))
 
 pub start-on-spec : {M : Type 1} → statement M
 start-on-spec =

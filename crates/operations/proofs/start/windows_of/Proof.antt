@@ -13,7 +13,8 @@ use Rattle.operations.proofs.start.windows_of.Statement.{statement}
 use Rattle.operations.proofs.start.windows_of.Tie as tie
 
 abbrev Inv-loop : tie.InvT-loop
-Inv-loop reports windows₀ next₀ windows next = (next ≤ length reports) × (length windows ≡ 16) × (firstWindows next windows ≡ map started (take next reports))
+Inv-loop reports windows₀ next₀ windows next =
+    (next ≤ length reports) × (length windows ≡ 16) × (firstWindows next windows ≡ map started (take next reports))
 
 abbrev μ-loop : tie.MeasureT-loop
 μ-loop reports windows₀ next₀ windows next = length reports - next
@@ -60,7 +61,10 @@ returns : tie.Need-returns Inv-loop μ-loop
 returns c =
     let rs = c .before .before .before .before .args .reports .now in
     let e : c .before .loop .next ≡ length rs = omega arith in
-    ap (λ n. firstWindows n (c .before .loop .windows)) (sym e) ∙ c .before .loop .inv .2 ∙ ap (λ n. map started (take n rs)) e ∙ ap (map started) (take-length rs)
+    ap (λ n. firstWindows n (c .before .loop .windows)) (sym e)
+    ∙ c .before .loop .inv .2
+    ∙ ap (λ n. map started (take n rs)) e
+    ∙ ap (map started) (take-length rs)
 
 pub windows-of-spec : {M : Type 1} → statement M
 windows-of-spec =
