@@ -1,5 +1,5 @@
 -- What the private functions promise: the first two checks, a window taken out, its turn stored, and Main at every window.
-use Prim.Native.Nat.{ℕ}
+use Prim.Native.Nat.{ℕ, _<_}
 use mathlib.Core.Path.{_≡_}
 use mathlib.Core.List.{List}
 use mathlib.Core.Bool.{not, cond}
@@ -25,6 +25,7 @@ reached ns w p = cond (not (shape ns p)) OutOfShape (cond (not (ltb w (length (p
 
 -- x is the window in place w, one of the sixteen that code holds
 pub record Holds (p : Player) (w : ℕ) (x : Window) : Type 0 where
+  pub place : w < 16
   pub places : length (p .windows) ≡ 16
   pub at : (d : Window) → x ≡ getD (p .windows) w d
 

@@ -2,13 +2,9 @@
 use borrow.Author.Needs.{needs}
 use Rattle.rules.specs.Rules.{joinRule}
 use Rattle.player.specs.View.{playerOf}
-use Rattle.operations.proofs.Operate.{Reaches, reached-done, operate-refused, operate-meets}
+use Rattle.operations.proofs.Operate.{reached-done, operate-refused, operate-meets}
 use Rattle.operations.proofs.line.join_on.Statement.{statement}
 use Rattle.operations.proofs.line.join_on.Tie as tie
-
--- the first checks pass
-there : (c : tie.After-enum-told) → let args = c .before .before .before .before .args in Reaches (args .journal .now) (args .w) (args .player)
-there c = reached-done _ _ _ (c .before .before .reach .ensures) (c .enum-told .given .1)
 
 reach-requires : tie.Need-reach-requires
 reach-requires c κs = search needs
@@ -21,19 +17,21 @@ unfolding joinRule
 returns c = operate-refused _ _ _ (c .before .reach .ensures) (c .match .keys2)
 
 window-at-requires : tie.Need-window-at-requires
-window-at-requires c κs = there c .place
+window-at-requires c κs = reached-done _ _ _ (c .before .before .reach .ensures) (c .enum-told .given .1) .place
 
 join-at-requires : tie.Need-join-at-requires
 join-at-requires c κs = search needs
 
 with-window-requires : tie.Need-with-window-requires
-with-window-requires c κs = there (c .before .before .before) .place
+with-window-requires c κs = search needs
 
 returns-2 : tie.Need-returns-2
 unfolding joinRule playerOf
 returns-2 c =
     let read = c .before .before .before in
-    operate-meets (there (read .before)) (read .window-at .ensures) _ (c .before .join-at .ensures) (c .with-window .ensures)
+    let told = read .before in
+    operate-meets _ _ (told .before .before .reach .ensures) (told .enum-told .given .1)
+    (read .window-at .ensures) (c .before .join-at .ensures) (c .with-window .ensures)
 
 pub join-on-spec : {M : Type 1} → statement M
 join-on-spec =

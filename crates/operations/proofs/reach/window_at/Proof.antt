@@ -16,7 +16,7 @@ returns : tie.Need-returns
 returns c =
     let start = c .before .before in
     let long = windows-length (start .args .player) _ (start .good .0) in
-    record { places = long; at = λ d. getD-any (start .args .player .windows) (start .args .w) _ d (omega arith) }
+    record { place = start .pre; places = long; at = λ d. getD-any (start .args .player .windows) (start .args .w) _ d (omega arith) }
 
 pub window-at-spec : {M : Type 1} → statement M
 window-at-spec = tie.close (tie.spec mul-result array-copy-out-result returns)
