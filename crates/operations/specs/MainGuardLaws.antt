@@ -12,7 +12,8 @@ use Rattle.window_fill.specs.MainGuard.{endBelow, mainGuard}
 use Rattle.player.specs.InShape.{lengths-shape}
 
 -- an end of at most `current` is below the next index
-endBelow-next : (l current : ℕ) (v : WindowView) → windowShape l current v ≡ true → (s : Condition) → v .condition ≡ s → endBelow (current + 1) s ≡ true
+endBelow-next : (l current : ℕ) (v : WindowView) → windowShape l current v ≡ true →
+    (s : Condition) → v .condition ≡ s → endBelow (current + 1) s ≡ true
 endBelow-next l current v h normal e = refl
 endBelow-next l current v h (fetching n end) e = refl
 endBelow-next l current v h (completed end) e =

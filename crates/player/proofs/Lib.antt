@@ -1,4 +1,3 @@
--- What the proofs share besides the laws of specs/. `Refused` and `Sixteen` are for the crates above too.
+-- What the proofs of the crates above share besides the laws of specs/.
 pub mod Refused
 pub mod Sixteen
-mod Started

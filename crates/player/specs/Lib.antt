@@ -3,4 +3,3 @@ pub mod View
 pub mod Promise
 pub mod Views
 pub mod InShape
-pub mod Starting

@@ -66,7 +66,8 @@ allWindows-at p (v ∷ vs) h zero e l = and-left (p v) _ h
 allWindows-at p (v ∷ vs) h (suc w) e l = allWindows-at p vs (and-right (p v) _ h) w e (le-of-suc-le-suc l)
 
 -- the test of the windows from w on: window w's, and that of those after it
-pub allWindows-drop : (p : WindowView → Bool) (n w : ℕ) (ws : List Window) (d : Window) (b : Bool) → w < n → n ≤ length ws → b ≡ p (viewOf (getD ws w d)) →
+pub allWindows-drop : (p : WindowView → Bool) (n w : ℕ) (ws : List Window) (d : Window) (b : Bool) →
+    w < n → n ≤ length ws → b ≡ p (viewOf (getD ws w d)) →
     allWindows p (drop w (firstWindows n ws)) ≡ (b && allWindows p (drop (w + 1) (firstWindows n ws)))
 unfolding allWindows
 allWindows-drop p n w ws d b l h e = rw (firstWindows-drop n ws w d l h, e)
@@ -75,7 +76,8 @@ allWindows-drop p n w ws d b l h e = rw (firstWindows-drop n ws w d l h, e)
 -- mapWindows
 
 -- two rules that agree at every window that passes a test
-pub mapWindows-same : (p : WindowView → Bool) (f g : ℕ → WindowView → WindowView) → ((w : ℕ) (v : WindowView) → p v ≡ true → f w v ≡ g w v) →
+pub mapWindows-same : (p : WindowView → Bool) (f g : ℕ → WindowView → WindowView) →
+    ((w : ℕ) (v : WindowView) → p v ≡ true → f w v ≡ g w v) →
     (w : ℕ) (vs : List WindowView) → allWindows p vs ≡ true → mapWindows f w vs ≡ mapWindows g w vs
 unfolding mapWindows allWindows
 mapWindows-same p f g e w [] h = refl

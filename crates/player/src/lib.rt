@@ -1,8 +1,8 @@
-// The player's state: the windows that it holds, up to sixteen, its shape, and Start.
+// The player's state: the windows that it holds, up to sixteen, and its shape.
 mod shape;
-mod start;
 
 use journal::Index;
+pub use shape::count_fits;
 use window::Answer;
 use window::Window;
 

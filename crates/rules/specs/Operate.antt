@@ -16,7 +16,7 @@ use Rattle.journal.specs.Entry.{countOf, entriesOf}
 use Rattle.rules.specs.View.{WindowView, PlayerView, noWindow}
 use Rattle.rules.specs.Shape.{shape}
 use Rattle.rules.specs.Window.{Turn, done}
-use Rattle.rules.specs.Rules.{Outcome, refuse, windowAt, withWindow, turned, operate, mapWindows}
+use Rattle.rules.specs.Rules.{Outcome, refuse, windowAt, withWindow, turnAt, operate, mapWindows}
 use Rattle.rules.specs.Checks.{Refuses, Fail, Decides, decides-next}
 use Rattle.rules.specs.Shaped.{WindowShaped, Shaped, shaped, shape-of}
 
@@ -34,12 +34,12 @@ pub record Operated (ns : List ℕ) (w : ℕ) (p : PlayerView) (o : Outcome) (T 
 module _ (ns : List ℕ) (w : ℕ) (f : WindowView → Turn) (p : PlayerView) where
   -- what holds of both refusals and, in shape and at a window that is there, of the window's turn, holds of the operation
   pub operate-cases : (P : Outcome → Type 0) → P (refuse 1 p) → P (refuse 2 p) →
-      (shape ns p ≡ true → w < length (p .windows) → P (turned w (f (windowAt w p)) p)) → P (operate ns w f p)
+      (shape ns p ≡ true → w < length (p .windows) → P (turnAt w (f (windowAt w p)) p)) → P (operate ns w f p)
   unfolding operate
   operate-cases P one two three = go (shape ns p) refl (ltb w (length (p .windows))) refl
     where
       go : (s : Bool) → shape ns p ≡ s → (b : Bool) → ltb w (length (p .windows)) ≡ b →
-          P (cond (not s) (refuse 1 p) (cond (not b) (refuse 2 p) (turned w (f (windowAt w p)) p)))
+          P (cond (not s) (refuse 1 p) (cond (not b) (refuse 2 p) (turnAt w (f (windowAt w p)) p)))
       go true s true b = three s (ltb-true _ _ b)
       go true s false b = two
       go false s t b = one

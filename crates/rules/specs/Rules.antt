@@ -25,15 +25,15 @@ windowAt w p = getD (p .windows) w noWindow
 abbrev pub withWindow : ℕ → WindowView → PlayerView → PlayerView
 withWindow w v p = record { limit = p .limit; current = p .current; windows = set (p .windows) w v }
 
--- a turn of window w
-abbrev pub turned : ℕ → Turn → PlayerView → Outcome
-turned w t p = record { answer = t .answer; next = withWindow w (t .next) p }
+-- a turn stored at window w
+abbrev pub turnAt : ℕ → Turn → PlayerView → Outcome
+turnAt w t p = record { answer = t .answer; next = withWindow w (t .next) p }
 
 -- every operation on a window: 1 out of shape, 2 no such window, then the window's own rule
 unfoldable pub operate : List ℕ → ℕ → (WindowView → Turn) → PlayerView → Outcome
 operate ns w rule p =
     cond (not (shape ns p)) (refuse 1 p)
-    (cond (not (ltb w (length (p .windows)))) (refuse 2 p) (turned w (rule (windowAt w p)) p))
+    (cond (not (ltb w (length (p .windows)))) (refuse 2 p) (turnAt w (rule (windowAt w p)) p))
 
 -- every window by its own rule; the first is window w
 unfoldable pub mapWindows : (ℕ → WindowView → WindowView) → ℕ → List WindowView → List WindowView
@@ -90,10 +90,14 @@ sendOutput ns w out p =
 -- ------------------------------------------------------------------------
 -- Start: W, the batch limit and a report from each window; what the player held before is not read
 
--- at most L, and 0 or the index of an entry for the window, for each from window w on
+-- a report that Start takes: at most L, and 0 or the index of an entry for the window
+abbrev pub isStartReport : List Entry → ℕ → ℕ → Bool
+isStartReport j w r = leb r (length j) && isReport j w r
+
+-- each report is one, from window w on
 unfoldable pub areReports : List Entry → ℕ → List ℕ → Bool
 areReports j w [] = true
-areReports j w (r ∷ rs) = (leb r (length j) && isReport j w r) && areReports j (suc w) rs
+areReports j w (r ∷ rs) = isStartReport j w r && areReports j (suc w) rs
 
 -- the least of some numbers
 unfoldable pub least : List ℕ → ℕ

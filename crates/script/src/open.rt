@@ -58,7 +58,7 @@ impl Stage {
         }
         let reports = [0; 16];
         let end = count as usize;
-        let played = player.start(journal, count, 2, &reports[..end]);
+        let played = operations::start_on(player, journal, count, 2, &reports[..end]);
         let answer = played.answer;
         let next = played.player;
         let number = answer.number();

@@ -49,7 +49,7 @@ pub(crate) fn send_alone(journal: &[u32], limit: u32, window: Window) {
 // Start of a player in use, over the first `n` numbers of the journal.
 fn start_over(journal: &[u32], n: usize, p: Player, count: u32, limit: u32, reports: &[u32]) {
     if n <= journal.len() {
-        show::started(p.start(&journal[0..n], count, limit, reports));
+        show::started(operations::start_on(p, &journal[0..n], count, limit, reports));
     }
 }
 

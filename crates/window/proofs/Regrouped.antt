@@ -38,10 +38,3 @@ windowShape-regrouped l current v =
     (nextFits (v .condition))
     (endFits current (v .condition))
     (catchUpFits (v .condition) (v .catchQueue) && suspendedFits v (v .condition))
-
--- tests one after another, the last outcome first to be found
-pub off : {a : Bool} (b : Bool) → a ≡ false → false ≡ (a && b)
-off b e = rw e
-
-pub on : {x a b : Bool} → a ≡ true → x ≡ b → x ≡ (a && b)
-on e f = rw e f

@@ -1,4 +1,4 @@
-// The shape of one window: its lengths, the indices that it holds, and its queues beside its condition.
+// The shape of one window: its lengths, the indices that it holds, and its queues beside its condition; and what a batch limit may be.
 use crate::Condition;
 use crate::Window;
 use journal::Index;
@@ -8,7 +8,17 @@ ghost use lib.Dec.{leb};
 ghost use lib.ListN.{length};
 ghost use Rattle.lists.specs.All.{all, heldIn};
 ghost use Rattle.window.specs.View.{viewOf, conditionOf};
-ghost use Rattle.rules.specs.Shape.{lengthsFit, windowShape, conditionHeld, nextFits, endFits, catchUpFits, suspendedFits};
+ghost use Rattle.rules.specs.Shape.{limitFits, lengthsFit, windowShape, conditionHeld, nextFits, endFits, catchUpFits, suspendedFits};
+
+// Whether a batch limit is 1 to 32.
+pub fn limit_fits(limit: u32) -> bool
+    ensures { λ r. ⌜ r ≡ limitFits limit ⌝ }
+{
+    if limit < 1 {
+        return false;
+    }
+    limit <= 32
+}
 
 impl Condition {
     // Whether what is still to be fetched is within l and `current`, and its next is 1 to its end.

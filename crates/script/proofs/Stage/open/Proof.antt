@@ -17,11 +17,11 @@ returns c = rw (c .around .ensures) (opens-over _ _ _ (c .before .before .blank 
 array-share-prefix-reports : tie.Need-array-share-prefix-reports
 array-share-prefix-reports c = search needs
 
-slice-aggregate-start : tie.Need-slice-aggregate-start
-slice-aggregate-start c = reports-count _ (c .before .if1 .left)
+slice-aggregate-start-on : tie.Need-slice-aggregate-start-on
+slice-aggregate-start-on c = reports-count _ (c .before .if1 .left)
 
-start-requires : tie.Need-start-requires
-start-requires c κs = search needs
+start-on-requires : tie.Need-start-on-requires
+start-on-requires c κs = search needs
 
 number-requires : tie.Need-number-requires
 number-requires c κs = search needs
@@ -30,7 +30,7 @@ around-requires-2 : tie.Need-around-requires-2
 around-requires-2 c κs = search needs
 
 returns-2 : tie.Need-returns-2
-returns-2 c = rw (c .around2 .ensures, c .before .number .ensures) (opens-start _ _ _ (c .before .before .before .before .before .before .blank .ensures) _ _ (c .before .before .before .before .before .if1 .left) refl (c .before .before .before .start .ensures))
+returns-2 c = rw (c .around2 .ensures, c .before .number .ensures) (opens-start _ _ _ (c .before .before .before .before .before .before .blank .ensures) _ _ (c .before .before .before .before .before .if1 .left) refl (c .before .before .before .start-on .ensures))
 
 pub open-spec : {M : Type 1} → statement M
 open-spec =
@@ -40,8 +40,8 @@ open-spec =
     around-requires
     returns
     array-share-prefix-reports
-    slice-aggregate-start
-    start-requires
+    slice-aggregate-start-on
+    start-on-requires
     number-requires
     around-requires-2
     returns-2)
