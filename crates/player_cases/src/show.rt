@@ -1,19 +1,13 @@
 // What a case shows.
-use crate::state::State;
-use journal::Index;
-use player::Played;
+use crate::state::window_of;
 use player::Player;
-use rules::Term;
+use queue::Batches;
+use queue::Queue;
 use window::Answer;
 use window::Condition;
 use window::Head;
 use window::Window;
-
-// The number of what an operation answered.
-fn given(played: Played) -> u32 {
-    let answer = played.answer;
-    answer.number()
-}
+ghost use Prim.Native.Nat.{_≤_};
 
 // A byte as it stands.
 pub(crate) fn byte(b: u8) {
@@ -23,6 +17,44 @@ pub(crate) fn byte(b: u8) {
 fn field(name: &[u8], n: u64) {
     io::write_all(1, name);
     io::print_decimal(1, n);
+}
+
+// A blank, and a number.
+fn value(n: u32) {
+    field(b" ", n as u64);
+}
+
+pub(crate) fn answer(given: Answer) {
+    value(given.number());
+}
+
+pub(crate) fn in_shape(yes: bool) {
+    if yes {
+        io::write_all(1, b" in shape,");
+    } else {
+        io::write_all(1, b" out of shape,");
+    }
+}
+
+// Where the last fifteen of n numbers begin, or 0 where there are fewer.
+fn fifteen(n: usize) -> usize
+    ensures { λ r. ⌜ r ≤ n ⌝ }
+{
+    if n < 15 { 0 } else { n - 15 }
+}
+
+// The last fifteen numbers of a list at most.
+fn numbers(name: &[u8], list: &[u32]) {
+    io::write_all(1, name);
+    let mut k = fifteen(list.len());
+    while k < list.len() {
+        value(list[k]);
+        k += 1;
+    }
+}
+
+pub(crate) fn out(list: &[u32]) {
+    numbers(b", out", list);
 }
 
 fn condition(c: Condition) {
@@ -43,122 +75,83 @@ fn condition(c: Condition) {
     }
 }
 
-fn line(head: Head) {
-    field(b", term ", head.term.0 as u64);
-    field(b", acked ", head.acked.0 as u64);
-    field(b", sent ", head.sent.0 as u64);
-    if head.busy {
+// A window's place, its term, its line and its condition.
+fn head(w: u32, h: Head) {
+    field(b"; ", w as u64);
+    field(b": term ", h.term.0 as u64);
+    field(b", acked ", h.acked.0 as u64);
+    field(b", sent ", h.sent.0 as u64);
+    if h.busy {
         io::write_all(1, b", busy");
     } else {
         io::write_all(1, b", free");
     }
-    let batches = head.batches;
-    field(b", batches ", batches.size() as u64);
+    let c = h.condition;
+    condition(c);
 }
 
-fn window(x: Window) {
-    let head = x.head;
-    line(head);
+// How many batches there are, and how many indices each queue has.
+fn sizes(x: Window) {
+    let batches = x.head.batches;
+    field(b", batches ", batches.size() as u64);
     let normal = x.normal;
     field(b", normal ", normal.size() as u64);
     let catch_up = x.catch_up;
     field(b", catch-up ", catch_up.size() as u64);
-    let c = head.condition;
-    condition(c);
 }
 
-fn window_of(p: Player, w: usize) -> Window {
-    let windows = p.windows;
-    if w < 16 {
-        return windows[w];
-    }
-    windows[0]
-}
-
-// The answer; of a success also `current` and one window as they then are.
-fn answer(played: Played, w: usize) {
-    field(b" ", given(played) as u64);
-    let answer = played.answer;
-    if let Answer::Done = answer {
-        let p = played.player;
-        field(b", current ", p.current.0 as u64);
-        window(window_of(p, w));
+// The first `n` of a row of cells.
+fn cells(name: &[u8], row: &[u32], n: usize) {
+    if n <= row.len() {
+        numbers(name, &row[0..n]);
     }
 }
 
-pub(crate) fn main_stream(s: State, journal: &[u32], index: u32, w: usize) {
-    answer(operations::main_on(s.player(), journal, Index(index)), w);
-}
-
-pub(crate) fn catch(s: State, journal: &[u32], w: u32, term: u32, index: u32) {
-    answer(
-        operations::catch_on(s.player(), journal, w, Term(term), Index(index)),
-        w as usize,
-    );
-}
-
-pub(crate) fn written(s: State, journal: &[u32], w: u32, term: u32) {
-    answer(
-        operations::written_on(s.player(), journal, w, Term(term)),
-        w as usize,
-    );
-}
-
-pub(crate) fn ack(s: State, journal: &[u32], w: u32, term: u32, index: u32) {
-    answer(
-        operations::ack_on(s.player(), journal, w, Term(term), Index(index)),
-        w as usize,
-    );
-}
-
-pub(crate) fn drop(s: State, journal: &[u32], w: u32, seen: usize) {
-    answer(operations::drop_on(s.player(), journal, w), seen);
-}
-
-pub(crate) fn join(s: State, journal: &[u32], w: u32, report: u32) {
-    answer(
-        operations::join_on(s.player(), journal, w, Index(report)),
-        w as usize,
-    );
-}
-
-// The number of an answer.
-fn brief(played: Played) {
-    field(b" ", given(played) as u64);
-}
-
-fn in_shape(yes: bool) {
-    if yes {
-        io::write_all(1, b" in shape,");
+// Up to three of a queue's indices.
+fn queue(name: &[u8], q: Queue) {
+    let row = q.cells;
+    if q.size() < 3 {
+        cells(name, &row, q.size());
     } else {
-        io::write_all(1, b" out of shape,");
+        cells(name, &row, 3);
     }
 }
 
-// What Main answers with the next index.
-fn next(p: Player, journal: &[u32]) {
-    let current = p.current.0;
-    if current < 4294967295 {
-        brief(operations::main_on(p, journal, Index(current + 1)));
-    }
+fn batches(b: Batches) {
+    let row = b.cells;
+    cells(b", batches", &row, b.size());
 }
 
-// Whether the state is in shape, and what each operation answers: Main with the next index, the others at a window that no player has, with
-// a term and an index that are nobody's.
-pub(crate) fn shape(s: State, journal: &[u32]) {
-    let p = s.player();
-    in_shape(p.in_shape(journal));
-    next(p, journal);
-    brief(operations::catch_on(p, journal, 16, Term(9), Index(9)));
-    brief(operations::written_on(p, journal, 16, Term(9)));
-    brief(operations::ack_on(p, journal, 16, Term(9), Index(9)));
-    brief(operations::drop_on(p, journal, 16));
-    brief(operations::join_on(p, journal, 16, Index(9)));
+// The batches, and the first three indices of each queue.
+fn items(x: Window) {
+    let out = x.head.batches;
+    batches(out);
+    let normal = x.normal;
+    queue(b", normal", normal);
+    let catch_up = x.catch_up;
+    queue(b", catch-up", catch_up);
 }
 
-// The same over the first `n` numbers of a journal.
-pub(crate) fn shape_of(s: State, journal: &[u32], n: usize) {
-    if n <= journal.len() {
-        shape(s, &journal[0..n]);
+// What a letter shows of a player; nothing where it is none of these.
+pub(crate) fn letter(p: Player, w: u32, letter: u8) {
+    match letter {
+        b'K' => field(b", current ", p.current.0 as u64),
+        b'L' => {
+            field(b", windows ", p.count as u64);
+            field(b", limit ", p.limit as u64);
+        }
+        b'V' => {
+            let x = window_of(p, w as usize);
+            let h = x.head;
+            head(w, h);
+            sizes(x);
+        }
+        b'U' => {
+            let x = window_of(p, w as usize);
+            let h = x.head;
+            head(w, h);
+            items(x);
+        }
+        _ => {}
     }
 }
