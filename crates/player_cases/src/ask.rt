@@ -1,11 +1,10 @@
-// What a letter asks of the player, and shows.
-use crate::numbers::Numbers;
+// What a letter asks of the player.
+use crate::line::Line;
 use crate::show;
 use crate::state::State;
 use journal::Index;
 use player::Played;
 use player::Player;
-use queue::Queue;
 use rules::Term;
 use window::Window;
 
@@ -16,37 +15,21 @@ fn answered(played: Played) -> Player {
     played.player
 }
 
-// The operations that lend nothing.
-fn operation(p: Player, journal: &[u32], n: Numbers, letter: u8) -> Player {
-    match letter {
-        b'M' => answered(operations::main_on(p, journal, Index(n.d))),
-        b'C' => answered(operations::catch_on(p, journal, n.b, Term(n.c), Index(n.d))),
-        b'W' => answered(operations::written_on(p, journal, n.c, Term(n.d))),
-        b'A' => answered(operations::ack_on(p, journal, n.b, Term(n.c), Index(n.d))),
-        b'D' => answered(operations::drop_on(p, journal, n.d)),
-        b'J' => answered(operations::join_on(p, journal, n.c, Index(n.d))),
-        _ => p,
-    }
-}
-
-// Send, lent the first `size` numbers of an output.
-fn lend(p: Player, journal: &[u32], w: u32, out: &mut [u32], size: usize) -> Player {
+// Send, lent the first of some numbers.
+fn lend(p: Player, journal: &[u32], n: Line, out: &mut [u32]) -> Player {
+    let size = n.c as usize;
     if size <= out.len() {
-        let after = answered(operations::send_on(p, journal, w, &mut out[0..size]));
-        show::out(out);
+        let after = answered(operations::send_on(p, journal, n.b, &mut out[0..size]));
+        show::out(out, n.d as usize);
         return after;
     }
     p
 }
 
-// Send, of an output of up to 165 nines.
-fn send(p: Player, journal: &[u32], n: Numbers) -> Player {
+// Send, lent the first of 165 nines.
+fn send(p: Player, journal: &[u32], n: Line) -> Player {
     let mut nines = [9; 165];
-    let all = n.d as usize;
-    if all <= 165 {
-        return lend(p, journal, n.b, &mut nines[0..all], n.c as usize);
-    }
-    p
+    lend(p, journal, n, &mut nines)
 }
 
 // Send at a window on its own, lent five nines.
@@ -55,28 +38,39 @@ fn alone(window: Window, journal: &[u32], limit: u32) {
     let turned = window_send::send_at(window, journal, limit, &mut nines);
     let answer = turned.answer;
     show::answer(answer);
-    show::out(&nines);
+    show::out(&nines, 5);
 }
 
 // Start with the first `len` reports.
-fn start_with(p: Player, journal: &[u32], n: Numbers, reports: &[u32], len: usize) -> Player {
+fn start(p: Player, journal: &[u32], n: Line, reports: &[u32], len: usize) -> Player {
     if len <= reports.len() {
         return answered(p.start(journal, n.c, n.d, &reports[0..len]));
     }
     p
 }
 
-// Start with these reports.
-fn start(p: Player, journal: &[u32], n: Numbers, reports: Queue) -> Player {
-    let cells = reports.cells;
-    start_with(p, journal, n, &cells, reports.len)
+// The operations on a player that lend nothing.
+fn operation(p: Player, journal: &[u32], n: Line, letter: u8) -> Player {
+    match letter {
+        b'M' => answered(operations::main_on(p, journal, Index(n.d))),
+        b'C' => answered(operations::catch_on(p, journal, n.b, Term(n.c), Index(n.d))),
+        b'S' => send(p, journal, n),
+        b'W' => answered(operations::written_on(p, journal, n.c, Term(n.d))),
+        b'A' => answered(operations::ack_on(p, journal, n.b, Term(n.c), Index(n.d))),
+        b'D' => answered(operations::drop_on(p, journal, n.d)),
+        b'J' => answered(operations::join_on(p, journal, n.c, Index(n.d))),
+        _ => p,
+    }
 }
 
-// What Main answers with the next index.
-fn next(p: Player, journal: &[u32]) {
-    let current = p.current.0;
-    if current < 4294967295 {
-        answered(operations::main_on(p, journal, Index(current + 1)));
+// Two numbers, and one before them.
+fn numbers(b: u32, c: u32, d: u32) -> Line {
+    Line {
+        naming: false,
+        a: 0,
+        b,
+        c,
+        d,
     }
 }
 
@@ -84,12 +78,13 @@ fn next(p: Player, journal: &[u32]) {
 // with a term and an index that are nobody's.
 fn shape(p: Player, journal: &[u32]) {
     show::in_shape(p.in_shape(journal));
-    next(p, journal);
-    answered(operations::catch_on(p, journal, 16, Term(9), Index(9)));
-    answered(operations::written_on(p, journal, 16, Term(9)));
-    answered(operations::ack_on(p, journal, 16, Term(9), Index(9)));
-    answered(operations::drop_on(p, journal, 16));
-    answered(operations::join_on(p, journal, 16, Index(9)));
+    let next = std::num::wrapping_add_u32(p.current.0, 1);
+    operation(p, journal, numbers(0, 0, next), b'M');
+    operation(p, journal, numbers(16, 9, 9), b'C');
+    operation(p, journal, numbers(0, 16, 9), b'W');
+    operation(p, journal, numbers(16, 9, 9), b'A');
+    operation(p, journal, numbers(0, 0, 16), b'D');
+    operation(p, journal, numbers(0, 16, 9), b'J');
 }
 
 // The same over the first `n` numbers of a journal.
@@ -99,13 +94,13 @@ fn shape_of(p: Player, journal: &[u32], n: usize) {
     }
 }
 
-// What a letter asks over a journal.
-fn over(s: State, journal: &[u32], n: Numbers, letter: u8) -> Player {
+// What a letter asks over a journal, and the player as it then is.
+fn over(s: State, journal: &[u32], n: Line, letter: u8) -> Player {
     let p = s.player;
     let reports = s.reports;
+    let cells = reports.cells;
     match letter {
-        b'S' => send(p, journal, n),
-        b'P' => start(p, journal, n, reports),
+        b'P' => start(p, journal, n, &cells, reports.len),
         b'O' => {
             alone(s.window(), journal, p.limit);
             p
@@ -118,15 +113,15 @@ fn over(s: State, journal: &[u32], n: Numbers, letter: u8) -> Player {
     }
 }
 
-// What a letter asks or shows, and the state as it then is.
-pub(crate) fn letter(s: State, journals: &[u32], zeros: &[u32], n: Numbers, letter: u8) -> State {
+// What a letter asks, and the state as it then is.
+pub(crate) fn letter(s: State, journals: &[u32], zeros: &[u32], n: Line, letter: u8) -> State {
     let from = s.from;
     let to = s.to;
     let p = s.player;
-    show::letter(p, n.d, letter);
     if letter == b'Z' {
         shape_of(p, zeros, n.d as usize);
     }
+    show::letter(p, n.d, letter);
     if from <= to {
         if to <= journals.len() {
             return s.with(over(s, &journals[from..to], n, letter));

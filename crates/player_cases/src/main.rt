@@ -9,7 +9,7 @@
 // | `o` | W, batch limit, `current` | `M` | Main: index |
 // | `j` | the journal: where it begins and ends in `journals` | `C` | Catch: window, term, index |
 // | `r` | one more report for Start | `S` | Send: window, size of the output lent, of so many nines |
-// | `k` | the lines that follow start at this state | `W` | Written: window, term |
+// | `=` | the lines that follow start at this state | `W` | Written: window, term |
 // | `t` | the window that the letters below change, 0 as a line starts | `A` | Ack: window, term, index |
 // | `i` | every window as this one is | `D` | Drop: window |
 // | `l` | term, acknowledged, sent, and 1 for busy | `J` | Join: window, report |
@@ -24,7 +24,7 @@
 // | `q` | one more index in it | `U` | a window, with its batches and the first three indices of its queues |
 mod ask;
 mod bench;
-mod numbers;
+mod line;
 mod show;
 mod state;
 mod windows;
@@ -98,7 +98,7 @@ fn play(text: &[u8], journals: &[u32], zeros: &[u32]) {
     let mut bench = bench::first();
     let mut i = 0;
     while i < text.len() {
-        bench = bench.fed(journals, zeros, text[i]);
+        bench = bench::feed(bench, journals, zeros, text[i]);
         i += 1;
     }
 }

@@ -1,8 +1,6 @@
 // What a case shows.
 use crate::state::window_of;
 use player::Player;
-use queue::Batches;
-use queue::Queue;
 use window::Answer;
 use window::Condition;
 use window::Head;
@@ -14,14 +12,18 @@ pub(crate) fn byte(b: u8) {
     io::write_all(1, &[b]);
 }
 
-fn field(name: &[u8], n: u64) {
+fn field(name: &[u8], n: u32) {
     io::write_all(1, name);
-    io::print_decimal(1, n);
+    io::print_decimal(1, n as u64);
 }
 
-// A blank, and a number.
+fn size(name: &[u8], n: usize) {
+    io::write_all(1, name);
+    io::print_decimal(1, n as u64);
+}
+
 fn value(n: u32) {
-    field(b" ", n as u64);
+    field(b" ", n);
 }
 
 pub(crate) fn answer(given: Answer) {
@@ -34,6 +36,10 @@ pub(crate) fn in_shape(yes: bool) {
     } else {
         io::write_all(1, b" out of shape,");
     }
+}
+
+fn least(m: usize, n: usize) -> usize {
+    if m < n { m } else { n }
 }
 
 // Where the last fifteen of n numbers begin, or 0 where there are fewer.
@@ -53,8 +59,16 @@ fn numbers(name: &[u8], list: &[u32]) {
     }
 }
 
-pub(crate) fn out(list: &[u32]) {
-    numbers(b", out", list);
+// The same of the first `n` of a list.
+fn first(name: &[u8], list: &[u32], n: usize) {
+    if n <= list.len() {
+        numbers(name, &list[0..n]);
+    }
+}
+
+// An output, of which the first `n` are shown.
+pub(crate) fn out(list: &[u32], n: usize) {
+    first(b", out", list, n);
 }
 
 fn condition(c: Condition) {
@@ -63,11 +77,11 @@ fn condition(c: Condition) {
             io::write_all(1, b", Normal");
         }
         Condition::Fetching { next, end } => {
-            field(b", Fetching ", next.0 as u64);
-            field(b" to ", end.0 as u64);
+            field(b", Fetching ", next.0);
+            field(b" to ", end.0);
         }
         Condition::Completed { end } => {
-            field(b", Completed ", end.0 as u64);
+            field(b", Completed ", end.0);
         }
         Condition::Suspended => {
             io::write_all(1, b", Suspended");
@@ -75,12 +89,11 @@ fn condition(c: Condition) {
     }
 }
 
-// A window's place, its term, its line and its condition.
-fn head(w: u32, h: Head) {
-    field(b"; ", w as u64);
-    field(b": term ", h.term.0 as u64);
-    field(b", acked ", h.acked.0 as u64);
-    field(b", sent ", h.sent.0 as u64);
+// A term, a line and a condition.
+fn head(h: Head) {
+    field(b": term ", h.term.0);
+    field(b", acked ", h.acked.0);
+    field(b", sent ", h.sent.0);
     if h.busy {
         io::write_all(1, b", busy");
     } else {
@@ -93,65 +106,45 @@ fn head(w: u32, h: Head) {
 // How many batches there are, and how many indices each queue has.
 fn sizes(x: Window) {
     let batches = x.head.batches;
-    field(b", batches ", batches.size() as u64);
-    let normal = x.normal;
-    field(b", normal ", normal.size() as u64);
-    let catch_up = x.catch_up;
-    field(b", catch-up ", catch_up.size() as u64);
-}
-
-// The first `n` of a row of cells.
-fn cells(name: &[u8], row: &[u32], n: usize) {
-    if n <= row.len() {
-        numbers(name, &row[0..n]);
-    }
-}
-
-// Up to three of a queue's indices.
-fn queue(name: &[u8], q: Queue) {
-    let row = q.cells;
-    if q.size() < 3 {
-        cells(name, &row, q.size());
-    } else {
-        cells(name, &row, 3);
-    }
-}
-
-fn batches(b: Batches) {
-    let row = b.cells;
-    cells(b", batches", &row, b.size());
+    size(b", batches ", batches.len);
+    size(b", normal ", x.normal.len);
+    size(b", catch-up ", x.catch_up.len);
 }
 
 // The batches, and the first three indices of each queue.
 fn items(x: Window) {
-    let out = x.head.batches;
-    batches(out);
+    let batches = x.head.batches;
+    let out = batches.cells;
+    first(b", batches", &out, batches.len);
     let normal = x.normal;
-    queue(b", normal", normal);
+    let queued = normal.cells;
+    first(b", normal", &queued, least(normal.len, 3));
     let catch_up = x.catch_up;
-    queue(b", catch-up", catch_up);
+    let caught = catch_up.cells;
+    first(b", catch-up", &caught, least(catch_up.len, 3));
+}
+
+// A window, in a place.
+fn window(x: Window, w: u32, letter: u8) {
+    let h = x.head;
+    field(b"; ", w);
+    head(h);
+    if letter == b'V' {
+        sizes(x);
+    } else {
+        items(x);
+    }
 }
 
 // What a letter shows of a player; nothing where it is none of these.
 pub(crate) fn letter(p: Player, w: u32, letter: u8) {
     match letter {
-        b'K' => field(b", current ", p.current.0 as u64),
+        b'K' => field(b", current ", p.current.0),
         b'L' => {
-            field(b", windows ", p.count as u64);
-            field(b", limit ", p.limit as u64);
+            field(b", windows ", p.count);
+            field(b", limit ", p.limit);
         }
-        b'V' => {
-            let x = window_of(p, w as usize);
-            let h = x.head;
-            head(w, h);
-            sizes(x);
-        }
-        b'U' => {
-            let x = window_of(p, w as usize);
-            let h = x.head;
-            head(w, h);
-            items(x);
-        }
+        b'V' | b'U' => window(window_of(p, w as usize), w, letter),
         _ => {}
     }
 }

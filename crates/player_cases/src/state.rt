@@ -1,12 +1,12 @@
 // States made by hand.
-use crate::numbers::Numbers;
+use crate::line::Line;
 use crate::windows;
 use journal::Index;
 use player::Player;
 use queue::Queue;
 use window::Window;
 
-// The player, the place of the window that letters change, the reports for Start, and where the journal begins and ends.
+// The player, the reports for Start, the place of the window that letters change, and where the journal begins and ends.
 pub(crate) struct State {
     pub(crate) player: Player,
     pub(crate) reports: Queue,
@@ -15,16 +15,13 @@ pub(crate) struct State {
     pub(crate) to: usize,
 }
 
-// Two idle windows, the batch limit 2 and `current` 4, over the first of the journals; windows out of shape from 2 up.
+// Two idle windows, the batch limit 2 and `current` 4, over the first of the journals.
 pub(crate) fn first() -> State {
-    let mut windows = [windows::broken(); 16];
-    windows[0] = windows::idle();
-    windows[1] = windows::idle();
     let player = Player {
         count: 2,
         limit: 2,
         current: Index(4),
-        windows,
+        windows: [windows::idle(); 16],
     };
     State {
         player,
@@ -42,29 +39,6 @@ pub(crate) fn window_of(player: Player, place: usize) -> Window {
     windows[at]
 }
 
-// W, the batch limit, `current`.
-fn with_numbers(player: Player, n: Numbers) -> Player {
-    let windows = player.windows;
-    Player {
-        count: n.b,
-        limit: n.c,
-        current: Index(n.d),
-        windows,
-    }
-}
-
-fn with_window(mut player: Player, place: usize, window: Window) -> Player {
-    let at = place % 16;
-    player.windows[at] = window;
-    player
-}
-
-// With every window alike.
-fn alike(mut player: Player, window: Window) -> Player {
-    player.windows = [window; 16];
-    player
-}
-
 impl State {
     // The window that letters change.
     pub(crate) fn window(self) -> Window {
@@ -76,41 +50,59 @@ impl State {
         self.player = player;
         self
     }
+}
 
-    fn at(mut self, place: usize) -> State {
-        self.place = place;
-        self
+// The windows that a letter makes of a state's.
+fn windows(s: State, n: Line, letter: u8) -> [Window; 16] {
+    let player = s.player;
+    let mut windows = player.windows;
+    let at = s.place % 16;
+    if letter == b'i' {
+        return [windows[at]; 16];
     }
-
-    fn over(mut self, from: usize, to: usize) -> State {
-        self.from = from;
-        self.to = to;
-        self
-    }
-
-    fn reported(mut self, report: u32) -> State {
-        let reports = self.reports;
-        self.reports = reports.push(report);
-        self
-    }
+    windows[at] = windows::set(windows[at], n, letter);
+    windows
 }
 
 // The player that a letter makes of a state's.
-fn player(s: State, n: Numbers, letter: u8) -> Player {
+fn player(s: State, n: Line, letter: u8) -> Player {
     let player = s.player;
-    match letter {
-        b'o' => with_numbers(player, n),
-        b'i' => alike(player, s.window()),
-        _ => with_window(player, s.place, windows::set(s.window(), n, letter)),
+    let windows = windows(s, n, letter);
+    if letter == b'o' {
+        return Player {
+            count: n.b,
+            limit: n.c,
+            current: Index(n.d),
+            windows,
+        };
+    }
+    let current = player.current;
+    Player {
+        count: player.count,
+        limit: player.limit,
+        current,
+        windows,
     }
 }
 
 // The state that a letter makes of a state.
-pub(crate) fn set(s: State, n: Numbers, letter: u8) -> State {
+pub(crate) fn set(mut s: State, n: Line, letter: u8) -> State {
+    let reports = s.reports;
     match letter {
-        b'j' => s.over(n.c as usize, n.d as usize),
-        b't' => s.at(n.d as usize),
-        b'r' => s.reported(n.d),
+        b'j' => {
+            s.from = n.c as usize;
+            s.to = n.d as usize;
+            s
+        }
+        b't' => {
+            s.place = n.d as usize;
+            s
+        }
+        b'r' => {
+            let more = reports.push(n.d);
+            s.reports = more;
+            s
+        }
         _ => s.with(player(s, n, letter)),
     }
 }

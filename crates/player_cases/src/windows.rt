@@ -1,5 +1,5 @@
 // Windows made by hand.
-use crate::numbers::Numbers;
+use crate::line::Line;
 use journal::Index;
 use queue::Batches;
 use queue::Queue;
@@ -25,29 +25,14 @@ pub(crate) fn idle() -> Window {
     }
 }
 
-// The same Suspended, with queues that are too long.
-pub(crate) fn broken() -> Window {
-    let head = idle().head;
-    Window {
-        head: changed(head, Numbers::NONE, b's'),
-        normal: filled(0, 129),
-        catch_up: filled(0, 129),
-    }
-}
-
-// A queue with an index in every cell.
-fn filled(x: u32, len: u32) -> Queue {
-    let cells = [x; 128];
-    Queue {
-        cells,
-        len: len as usize,
-    }
-}
-
 // What a letter makes of a queue: `all` an index in every cell, `more` one more index.
-fn queue(q: Queue, n: Numbers, letter: u8, all: u8, more: u8) -> Queue {
+fn queue(q: Queue, n: Line, letter: u8, all: u8, more: u8) -> Queue {
     if letter == all {
-        return filled(n.c, n.d);
+        let cells = [n.c; 128];
+        return Queue {
+            cells,
+            len: n.d as usize,
+        };
     }
     if letter == more {
         return q.push(n.d);
@@ -56,7 +41,7 @@ fn queue(q: Queue, n: Numbers, letter: u8, all: u8, more: u8) -> Queue {
 }
 
 // What a letter makes of unacknowledged batches.
-fn batches(b: Batches, n: Numbers, letter: u8) -> Batches {
+fn batches(b: Batches, n: Line, letter: u8) -> Batches {
     match letter {
         b'b' => Batches {
             cells: [n.c; 8],
@@ -68,7 +53,7 @@ fn batches(b: Batches, n: Numbers, letter: u8) -> Batches {
 }
 
 // What a letter makes of a condition.
-fn condition(now: Condition, n: Numbers, letter: u8) -> Condition {
+fn condition(now: Condition, n: Line, letter: u8) -> Condition {
     match letter {
         b'f' => Condition::Fetching {
             next: Index(n.c),
@@ -80,47 +65,40 @@ fn condition(now: Condition, n: Numbers, letter: u8) -> Condition {
     }
 }
 
-// Another line.
-fn line(head: Head, n: Numbers) -> Head {
-    let batches = head.batches;
-    let condition = head.condition;
+// What a letter makes of a head.
+fn head(before: Head, n: Line, letter: u8) -> Head {
+    let out = before.batches;
+    let now = before.condition;
+    let batches = batches(out, n, letter);
+    let condition = condition(now, n, letter);
+    if letter == b'l' {
+        return Head {
+            term: Term(n.a),
+            acked: Index(n.b),
+            sent: Index(n.c),
+            busy: n.d == 1,
+            batches,
+            condition,
+        };
+    }
+    let term = before.term;
+    let acked = before.acked;
+    let sent = before.sent;
     Head {
-        term: Term(n.a),
-        acked: Index(n.b),
-        sent: Index(n.c),
-        busy: n.d == 1,
+        term,
+        acked,
+        sent,
+        busy: before.busy,
         batches,
         condition,
     }
 }
 
-// What a letter makes of a head beside its line.
-fn changed(head: Head, n: Numbers, letter: u8) -> Head {
-    let term = head.term;
-    let acked = head.acked;
-    let sent = head.sent;
-    let out = head.batches;
-    let now = head.condition;
-    Head {
-        term,
-        acked,
-        sent,
-        busy: head.busy,
-        batches: batches(out, n, letter),
-        condition: condition(now, n, letter),
-    }
-}
-
-// What a letter makes of a head.
-fn head(before: Head, n: Numbers, letter: u8) -> Head {
-    if letter == b'l' {
-        return line(before, n);
-    }
-    changed(before, n, letter)
-}
-
 // The window that a letter makes of a window.
-pub(crate) fn set(w: Window, n: Numbers, letter: u8) -> Window {
+pub(crate) fn set(w: Window, n: Line, letter: u8) -> Window {
+    if letter == b'h' {
+        return idle();
+    }
     let before = w.head;
     let normal = w.normal;
     let catch_up = w.catch_up;
