@@ -113,19 +113,22 @@ fn over(s: State, journal: &[u32], n: Line, letter: u8) -> Player {
     }
 }
 
-// What a letter asks, and the state as it then is.
-pub(crate) fn letter(s: State, journals: &[u32], zeros: &[u32], n: Line, letter: u8) -> State {
-    let from = s.from;
-    let to = s.to;
+// The same over the first `len` numbers.
+fn over_first(s: State, numbers: &[u32], len: usize, n: Line, letter: u8) -> Player {
+    if len <= numbers.len() {
+        return over(s, &numbers[0..len], n, letter);
+    }
+    s.player
+}
+
+// What a letter asks or shows, and the state as it then is.
+pub(crate) fn letter(s: State, zeros: &[u32], n: Line, letter: u8) -> State {
     let p = s.player;
+    show::letter(p, n.d, letter);
     if letter == b'Z' {
         shape_of(p, zeros, n.d as usize);
     }
-    show::letter(p, n.d, letter);
-    if from <= to {
-        if to <= journals.len() {
-            return s.with(over(s, &journals[from..to], n, letter));
-        }
-    }
-    s
+    let journal = s.journal;
+    let cells = journal.cells;
+    s.with(over_first(s, &cells, journal.len, n, letter))
 }

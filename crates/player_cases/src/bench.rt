@@ -24,22 +24,22 @@ pub(crate) fn first() -> Bench {
 }
 
 // The state after one more byte, of which a letter can change it.
-fn after(bench: Bench, journals: &[u32], zeros: &[u32], byte: u8) -> State {
+fn after(bench: Bench, zeros: &[u32], byte: u8) -> State {
     let n = bench.line;
     if n.naming || byte == b'\n' {
         show::byte(byte);
         return bench.start;
     }
     let state = bench.state;
-    let asked = ask::letter(state, journals, zeros, n, byte);
+    let asked = ask::letter(state, zeros, n, byte);
     state::set(asked, n, byte)
 }
 
 // The bench after one more byte.
-pub(crate) fn feed(bench: Bench, journals: &[u32], zeros: &[u32], byte: u8) -> Bench {
+pub(crate) fn feed(bench: Bench, zeros: &[u32], byte: u8) -> Bench {
     let n = bench.line;
     let line = n.fed(byte);
-    let state = after(bench, journals, zeros, byte);
+    let state = after(bench, zeros, byte);
     if byte == b'=' {
         return Bench {
             start: state,

@@ -6,16 +6,15 @@ use player::Player;
 use queue::Queue;
 use window::Window;
 
-// The player, the reports for Start, the place of the window that letters change, and where the journal begins and ends.
+// The player, the numbers of the journal, the reports for Start, and the place of the window that letters change.
 pub(crate) struct State {
     pub(crate) player: Player,
+    pub(crate) journal: Queue,
     pub(crate) reports: Queue,
     place: usize,
-    pub(crate) from: usize,
-    pub(crate) to: usize,
 }
 
-// Two idle windows, the batch limit 2 and `current` 4, over the first of the journals.
+// Two idle windows, the batch limit 2 and `current` 4, over no journal yet.
 pub(crate) fn first() -> State {
     let player = Player {
         count: 2,
@@ -25,10 +24,9 @@ pub(crate) fn first() -> State {
     };
     State {
         player,
+        journal: Queue::new(),
         reports: Queue::new(),
         place: 0,
-        from: 0,
-        to: 20,
     }
 }
 
@@ -85,24 +83,44 @@ fn player(s: State, n: Line, letter: u8) -> Player {
     }
 }
 
+// The journal that a letter makes of one.
+fn journal(mut q: Queue, n: Line, letter: u8) -> Queue {
+    if letter == b'v' {
+        return q.push(n.a).push(n.b).push(n.c).push(n.d);
+    }
+    if letter == b'j' {
+        q.len = n.d as usize;
+    }
+    q
+}
+
+// The reports that a letter makes of some.
+fn reports(q: Queue, n: Line, letter: u8) -> Queue {
+    if letter == b'r' {
+        return q.push(n.d);
+    }
+    q
+}
+
 // The state that a letter makes of a state.
-pub(crate) fn set(mut s: State, n: Line, letter: u8) -> State {
-    let reports = s.reports;
-    match letter {
-        b'j' => {
-            s.from = n.c as usize;
-            s.to = n.d as usize;
-            s
-        }
-        b't' => {
-            s.place = n.d as usize;
-            s
-        }
-        b'r' => {
-            let more = reports.push(n.d);
-            s.reports = more;
-            s
-        }
-        _ => s.with(player(s, n, letter)),
+pub(crate) fn set(s: State, n: Line, letter: u8) -> State {
+    let read = s.journal;
+    let told = s.reports;
+    let player = player(s, n, letter);
+    let journal = journal(read, n, letter);
+    let reports = reports(told, n, letter);
+    if letter == b't' {
+        return State {
+            player,
+            journal,
+            reports,
+            place: n.d as usize,
+        };
+    }
+    State {
+        player,
+        journal,
+        reports,
+        place: s.place,
     }
 }

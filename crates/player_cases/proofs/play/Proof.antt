@@ -6,10 +6,10 @@ use Rattle.player_cases.proofs.play.Statement.{statement}
 use Rattle.player_cases.proofs.play.Tie as tie
 
 abbrev Inv-loop : tie.InvT-loop
-Inv-loop text journals zeros bench₀ i₀ bench i = i ≤ length text
+Inv-loop text zeros bench₀ i₀ bench i = i ≤ length text
 
 abbrev μ-loop : tie.MeasureT-loop
-μ-loop text journals zeros bench₀ i₀ bench i = length text - i
+μ-loop text zeros bench₀ i₀ bench i = length text - i
 
 pub play-spec : {M : Type 1} → statement M
 play-spec =
