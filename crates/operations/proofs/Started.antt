@@ -15,7 +15,7 @@ use Rattle.player.specs.View.{firstWindows, playerOf}
 use Rattle.rules.specs.Shape.{countFits, limitFits}
 use Rattle.rules.specs.Window.{started}
 use Rattle.rules.specs.Rules.{areReports, least, startRule}
-use Rattle.rules.specs.Starts.{startNext}
+use Rattle.rules.specs.Offers.{startNext}
 use Rattle.player.specs.Promise.{Meets}
 use Rattle.operations.specs.Starting.{startFits}
 use Rattle.player.proofs.Refused.{refuse-meets}

@@ -1,21 +1,31 @@
 // Every refusal of the player's operations, and what they make of a state. Standard input has a line for each case: a label, a colon,
-// and letters with the numbers before them. A line starts at the base state; a small letter changes the state, and a large one asks an
-// operation of it and shows the answer. A state is wrong in two ways where that shows the order of the checks.
+// and letters with the numbers before them. A small letter changes the state. A large one asks an operation and shows the answer, or
+// shows what the player then holds. A state is wrong in two ways where that shows the order of the checks.
 //
 // | letter | what it sets | letter | what it asks |
 // |---|---|---|---|
-// | `o` | W, batch limit, `current` | `S` | the shape, and each operation at a window that no player has |
-// | `t` | the window is the last of the two | `Z` | the same over a journal of so many zeros |
-// | `l` | term, acknowledged, sent, and 1 for busy | `M` | Main: index, window shown |
-// | `b` | the first three batches, and how many | `C` | Catch: window, term, index |
-// | `f` | Fetching: next, end | `W` | Written: window, term |
-// | `e` | Completed: end | `A` | Ack: window, term, index |
-// | `s` | Suspended | `D` | Drop: window, window shown |
-// | `n` | normal queue: an index in every cell, how many | `J` | Join: window, report |
-// | `g` | catch-up queue: the same | | |
+// | `=` | the lines that follow start at this state | `M` | Main: index |
+// | `o` | W, batch limit, `current` | `C` | Catch: window, term, index |
+// | `v` | one more entry of the journal: windows, kind, race, value | `S` | Send: window, size of the output lent, how much is shown |
+// | `j` | how many numbers of the journal count | `W` | Written: window, term |
+// | `r` | one more report for Start | `A` | Ack: window, term, index |
+// | `t` | the window that the letters below change | `D` | Drop: window |
+// | `i` | every window as this one is | `J` | Join: window, report |
+// | `h` | idle | `P` | Start: W, batch limit |
+// | `l` | term, acknowledged, sent, and 1 for busy | `O` | Send at the window on its own, lent five numbers |
+// | `f` | Fetching: next, end | `I` | the shape, and each operation at a window that no player has |
+// | `e` | Completed: end | `Z` | the same over a journal of so many zeros |
+// | `s` | Suspended | | what it shows |
+// | `b` | batches: an index in every cell, how many | `K` | `current` |
+// | `u` | one more batch | `L` | W and the batch limit |
+// | `n`, `g` | normal, catch-up queue: an index in every cell, how many | `V` | a window, with the sizes of its queues |
+// | `p`, `q` | one more index in it | `U` | a window, with its batches and the first three indices of its queues |
+mod ask;
 mod bench;
+mod line;
 mod show;
 mod state;
+mod windows;
 
 ghost use mathlib.Core.Path.{_≡_};
 ghost use lib.ListN.{length};
@@ -28,41 +38,18 @@ fn zeros() -> [u32; 262144]
 }
 
 // Plays the bytes of the cases, one after another.
-fn play(text: &[u8], journal: &[u32], zeros: &[u32]) {
-    let mut bench = bench::fresh();
+fn play(text: &[u8], zeros: &[u32]) {
+    let mut bench = bench::first();
     let mut i = 0;
     while i < text.len() {
-        bench = bench::feed(bench, journal, zeros, text[i]);
+        bench = bench::feed(bench, zeros, text[i]);
         i += 1;
     }
 }
 
 fn main() {
-    // the sets of windows: 0 and 1; 0; 1; 0; 0, 1 and 15
-    let journal: [u32; 20] = [
-        3,
-        4,
-        0,
-        0,
-        1,
-        4,
-        0,
-        0,
-        2,
-        4,
-        0,
-        0,
-        1,
-        4,
-        0,
-        0,
-        32771,
-        4,
-        0,
-        0,
-    ];
     let zeros = zeros();
     let mut text = io::large_buffer();
     let n = io::read_full(0, &mut text);
-    play(&text[..n], &journal, &zeros);
+    play(&text[..n], &zeros);
 }

@@ -15,8 +15,8 @@ use Rattle.journal.specs.EntryLaws.{entriesOf-length}
 use Rattle.lists.specs.All.{all}
 use Rattle.rules.specs.View.{PlayerView}
 use Rattle.rules.specs.Shape.{countFits, limitFits, shape}
-use Rattle.rules.specs.Window.{isReport, started}
-use Rattle.rules.specs.Rules.{Outcome, refuse, windowAt, areReports, least, startRule}
+use Rattle.rules.specs.Window.{started}
+use Rattle.rules.specs.Rules.{Outcome, refuse, windowAt, isStartReport, areReports, least, startRule}
 use Rattle.rules.specs.Shaped.{WindowShaped, shape-of}
 use Rattle.rules.specs.Parts.{queued-none, normal-shaped, here-shaped}
 
@@ -42,8 +42,8 @@ least-some b (r ∷ rs) h = omega (arith, least-le (r ∷ rs) 0 (omega arith), h
 areReports-le : (j : List Entry) (w : ℕ) (rs : List ℕ) → areReports j w rs ≡ true → (i : ℕ) → i < length rs → getD rs i 0 ≤ length j
 unfolding areReports
 areReports-le j w [] e i h = absurd (omega arith)
-areReports-le j w (r ∷ rs) e zero h = leb-true _ _ (and-left (leb r (length j)) _ (and-left (leb r (length j) && isReport j w r) _ e))
-areReports-le j w (r ∷ rs) e (suc i) h = areReports-le j (suc w) rs (and-right (leb r (length j) && isReport j w r) _ e) i (omega arith)
+areReports-le j w (r ∷ rs) e zero h = leb-true _ _ (and-left (leb r (length j)) _ (and-left (isStartReport j w r) _ e))
+areReports-le j w (r ∷ rs) e (suc i) h = areReports-le j (suc w) rs (and-right (isStartReport j w r) _ e) i (omega arith)
 
 -- ------------------------------------------------------------------------
 -- at one window
