@@ -100,7 +100,8 @@ module _ (before : PlayerView) (j : List Entry) (count limit : ℕ) (done : firs
   opened-reached = record {
     inShape = opened-shaped;
     each = λ w h.
-        subst⁻¹ (λ c. Inv j c w (sideAt w (opened j first))) opened-current (subst⁻¹ (Inv j 0 w) (opened-side w (omega (arith, opened-count))) (new-inv j w));
+        subst⁻¹ (λ c. Inv j c w (sideAt w (opened j first))) opened-current
+        (subst⁻¹ (Inv j 0 w) (opened-side w (omega (arith, opened-count))) (new-inv j w));
   }
 
   delivers : (steps : List Step) → Delivers count (opened j first) steps
