@@ -102,7 +102,7 @@ work-lowers wd wd′ r (mains m) =
       arith,
       m .below,
       m .current,
-      total-le (sideWork (length (wd′ .journal)) (wd′ .current)) (sideWork (length (wd .journal)) (wd .current)) (wd′ .sides) (wd .sides) (m .count) each,
+      total-le (sideWork _ (wd′ .current)) (sideWork _ (wd .current)) (wd′ .sides) (wd .sides) (m .count) each,
     ))
 work-lowers wd wd′ r (works w h p′ work e s) =
     inr

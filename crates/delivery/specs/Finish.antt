@@ -66,7 +66,8 @@ map-nil j [] e = refl
 map-nil j (x ∷ xs) e = absurd (let z : _≡_ {A = ℕ} 0 1 = cc in omega arith)
 
 -- a window that has all on the line taken, and nothing due after sent, has taken all
-taken-whole : {j : List Entry} {c w : ℕ} {p : Side} → Inv j c w p → p .line ≡ [] → due j w (p .view .sent) (length j) ≡ [] → p .taken ≡ own j w
+taken-whole : {j : List Entry} {c w : ℕ} {p : Side} → Inv j c w p → p .line ≡ [] → due j w (p .view .sent) (length j) ≡ [] →
+    p .taken ≡ own j w
 taken-whole {j} {c} {w} {p} inv line queued =
     let on-line : due j w (lastOf p) (p .view .sent) ≡ [] = map-nil j _ (sym (ap lineEntries line) ∙ inv .flight .lineIs) in
     let split : due j w 0 (length j) ≡ due j w 0 (lastOf p)

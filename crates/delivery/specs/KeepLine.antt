@@ -136,9 +136,6 @@ module _ {j : List Entry} {w sent : ℕ} {s : Sent} {rest : List Sent} where
 -- an entry that ends its batch leaves the line, and its ack is on the way back
 module _ {away : Bool} {t : Term} {acked last : ℕ} {batches : List ℕ} {s : Sent} {rest : List Sent} {back : List Ack}
     (un : Unacknowledged away t acked last batches (s ∷ rest) back) (above : last < s .placed .index) where
-  x : ℕ
-  x = s .placed .index
-
   rises-after : (b : Bool) → Rising acked (backIndices (ackedBack b s back)) (s .placed .index)
   rises-after true =
       rw (map-append (λ a. a .index) back)

@@ -18,7 +18,7 @@ use Rattle.rules.specs.Shape.{isEmpty}
 use Rattle.rules.specs.Window.{isSuspended, requeue, Batch, batchOf, launched}
 use Rattle.rules.specs.Offers.{isEmpty-some, isEmpty-drop, batchOf-normal, batchOf-fetching, batchOf-more, batchOf-all, launched-is, SentOut}
 use Rattle.delivery.specs.World.{Sent, Ack, Side, withView, withLines, onLine}
-use Rattle.delivery.specs.Invariant.{InFlight, Unacknowledged, Holds, Queues, Inv, lastOf, backIndices, endsOf}
+use Rattle.delivery.specs.Invariant.{InFlight, Unacknowledged, Holds, Queues, Inv, backIndices, endsOf}
 use Rattle.delivery.specs.Lines.{lineTerms-append, endsOf-append, onLine-entries, onLine-terms, onLine-ends}
 use Rattle.delivery.specs.Queued.{HoldsCut, holds-append, holds-cut, withQueues}
 
@@ -100,7 +100,8 @@ module _ (j : List Entry) (c w : ℕ) (read : c ≤ length j) where
   keep-in p limit n q normal inv here =
       by-law (batchOf-normal (p .view) limit n q)
       (λ some.
-      launch c (take limit n) (drop limit n) (drop limit n) q normal inv refl refl (le-refl c) some (parted limit n (inv .queues .normalHas))
+      launch c (take limit n) (drop limit n) (drop limit n) q normal inv refl refl (le-refl c) some
+      (parted limit n (inv .queues .normalHas))
       (λ cut. record { ahead = omega (arith, cut .within); normalHas = cut .after }))
   keep-in p limit n q (fetching next end) inv here =
       let is = inv .queues in
@@ -128,7 +129,8 @@ module _ (j : List Entry) (c w : ℕ) (read : c ≤ length j) where
       (λ (more : limit < length q).
       by-law (batchOf-more (p .view) limit end n q more)
       (λ some.
-      launch end (take limit q) (drop limit q) n (drop limit q) (completed end) inv refl refl (is .read) some (parted limit q (is .catchHas))
+      launch end (take limit q) (drop limit q) n (drop limit q) (completed end) inv refl refl (is .read) some
+      (parted limit q (is .catchHas))
       (λ cut. record {
         behind = cut .within;
         read = is .read;

@@ -1,5 +1,5 @@
--- Every world of a run is reached: the beginning is, and each step keeps it.
-use Prim.Native.Nat.{ℕ, suc, _%_, _≤_, _<_}
+-- Every world of a run is reached: the beginning is, and each step leads on to another.
+use Prim.Native.Nat.{ℕ, _%_, _≤_, _<_}
 use mathlib.Core.Path.{_≡_, refl, ap, subst, subst⁻¹, _∙_}
 use mathlib.Core.List.{List, [], _∷_, _++_}
 use mathlib.Core.Bool.{true}
@@ -39,7 +39,8 @@ few-in wd r =
 -- ------------------------------------------------------------------------
 -- one side
 
-pub keep-worked : {j : List Entry} {c limit w : ℕ} {p p′ : Side} → c ≤ length j → length j ≤ 65535 → Inv j c w p → Worked j limit w p p′ → Inv j c w p′
+pub keep-worked : {j : List Entry} {c limit w : ℕ} {p p′ : Side} → c ≤ length j → length j ≤ 65535 → Inv j c w p →
+    Worked j limit w p p′ → Inv j c w p′
 keep-worked read few inv (caught t i k e) = rw e (keep-catch _ _ _ _ inv t i k)
 keep-worked read few inv (sent size out e) = rw e (keep-send _ _ _ read _ inv _ size out .inv)
 keep-worked read few inv (written t off e) = rw e (keep-written inv)
@@ -69,9 +70,7 @@ reached-work wd wd′ r (mains m) = record {
   inShape = m .shaped;
   each = λ w h.
       let h′ : w < length (wd .sides) = omega (arith, m .count) in
-      subst⁻¹ (λ j. Inv j (wd′ .current) w (sideAt w wd′)) (m .journal)
-      (subst⁻¹ (λ c. Inv (wd .journal) c w (sideAt w wd′)) (m .current)
-      (subst⁻¹ (Inv (wd .journal) (suc (wd .current)) w) (m .each w h′) (keep-main (wd .journal) (wd .current) w (sideAt w wd) (r .each w h′))));
+      rw (m .journal, m .current, m .each w h′) (keep-main (wd .journal) (wd .current) w (sideAt w wd) (r .each w h′));
 }
 reached-work wd wd′ r (works w h p′ work e s) =
     replaced wd wd′ w p′ r h e s (keep-worked (read-in wd r) (few-in wd r) (r .each w h) work)
@@ -81,9 +80,7 @@ reached-restart wd wd′ r m = record {
   inShape = m .shaped;
   each = λ w h.
       let h′ : w < length (wd .sides) = omega (arith, m .count) in
-      subst⁻¹ (λ j. Inv j (wd′ .current) w (sideAt w wd′)) (m .journal)
-      (subst⁻¹ (Inv (wd .journal) (wd′ .current) w) (m .each w h′)
-      (keep-start (r .each w h′) (m .least w h′)));
+      rw (m .journal, m .each w h′) (keep-start (r .each w h′) (m .least w h′));
 }
 
 numbersOf-append : (j : List Entry) (e : Entry) → numbersOf (j ++ (e ∷ [])) ≡ numbersOf j ++ numbersOf (e ∷ [])
