@@ -27,14 +27,15 @@ unfoldable pub total : (Side → ℕ) → List Side → ℕ
 total f [] = 0
 total f (p ∷ ps) = f p + total f ps
 
-total-set : (f : Side → ℕ) (ps : List Side) (w : ℕ) (p′ : Side) → w < length ps → total f (set ps w p′) + f (getD ps w noSide) ≡ total f ps + f p′
+total-set : (f : Side → ℕ) (ps : List Side) (w : ℕ) (p′ : Side) → w < length ps →
+    total f (set ps w p′) + f (getD ps w noSide) ≡ total f ps + f p′
 unfolding total
 total-set f [] w p′ h = absurd (omega arith)
 total-set f (p ∷ ps) zero p′ h = omega arith
 total-set f (p ∷ ps) (suc w) p′ h = omega (arith, total-set f ps w p′ (omega arith))
 
-total-le : (f g : Side → ℕ) (ps qs : List Side) → length ps ≡ length qs → ((w : ℕ) → w < length ps → f (getD ps w noSide) ≤ g (getD qs w noSide)) →
-    total f ps ≤ total g qs
+total-le : (f g : Side → ℕ) (ps qs : List Side) → length ps ≡ length qs →
+    ((w : ℕ) → w < length ps → f (getD ps w noSide) ≤ g (getD qs w noSide)) → total f ps ≤ total g qs
 unfolding total
 total-le f g [] [] e h = omega arith
 total-le f g [] (q ∷ qs) e h = absurd (omega arith)
@@ -73,7 +74,8 @@ unfolding workLeft
 workLeft-most wd r =
     let l : ℕ = length (wd .journal) in
     let n : ℕ = length (wd .sides) in
-    let most : l * (1 + 5 * n) ≡ l + 5 * l * n = mul-add l 1 (5 * n) ∙ ap₂ (λ a b. a + b) (mul-one l) (sym (mul-assoc l 5 n) ∙ ap (λ x. x * n) (mul-comm l 5)) in
+    let most : l * (1 + 5 * n) ≡ l + 5 * l * n
+    = mul-add l 1 (5 * n) ∙ ap₂ (λ a b. a + b) (mul-one l) (sym (mul-assoc l 5 n) ∙ ap (λ x. x * n) (mul-comm l 5)) in
     omega (
       arith,
       total-bound (sideWork l (wd .current)) (wd .sides) (5 * l) (λ w h. side-bound (r .each w h) (read-in wd r)),
@@ -100,7 +102,7 @@ work-lowers wd wd′ r (mains m) =
       arith,
       m .below,
       m .current,
-      total-le (sideWork (length (wd′ .journal)) (wd′ .current)) (sideWork (length (wd .journal)) (wd .current)) (wd′ .sides) (wd .sides) (m .count) each,
+      total-le (sideWork _ (wd′ .current)) (sideWork _ (wd .current)) (wd′ .sides) (wd .sides) (m .count) each,
     ))
 work-lowers wd wd′ r (works w h p′ work e s) =
     inr
@@ -135,8 +137,8 @@ module _ (n : ℕ) (wd : World) (s : Step) (r : Reached wd) (h : n + workLeft wd
   anew x is begun =
       simp (ap (λ x. begins x (step s wd .reply)) is ∙ begun) (omega (arith, workLeft-most (step s wd .world) (reached-step wd s r)))
 
-  counted : begins s (step s wd .reply) ≡ false → mostWork (step s wd .world) ≡ mostWork wd → (t : Bool) → sameWorld wd (step s wd .world) ≡ t →
-      (step s wd .world ≡ wd) ⊎ (workLeft (step s wd .world) < workLeft wd) → Counted
+  counted : begins s (step s wd .reply) ≡ false → mostWork (step s wd .world) ≡ mostWork wd → (t : Bool) →
+      sameWorld wd (step s wd .world) ≡ t → (step s wd .world ≡ wd) ⊎ (workLeft (step s wd .world) < workLeft wd) → Counted
   counted quiet most t same (inl e) =
       let itself : sameWorld wd (step s wd .world) ≡ true = ap (sameWorld wd) e ∙ sameWorld-itself wd in
       simp (quiet, itself) (omega (arith, ap workLeft e))
@@ -152,7 +154,8 @@ module _ (n : ℕ) (wd : World) (s : Step) (r : Reached wd) (h : n + workLeft wd
   by-facts (appending e is done k same) = anew (append e) is done
 
 -- the count so far and the work left are together at most L × (1 + 5 × W)
-pub changes-bound : (n : ℕ) (wd : World) (ss : List Step) → Reached wd → n + workLeft wd ≤ mostWork wd → changes n wd ss ≤ mostWork (run wd ss)
+pub changes-bound : (n : ℕ) (wd : World) (ss : List Step) → Reached wd → n + workLeft wd ≤ mostWork wd →
+    changes n wd ss ≤ mostWork (run wd ss)
 unfolding changes run
 changes-bound n wd [] r h = omega arith
 changes-bound n wd (s ∷ ss) r h =

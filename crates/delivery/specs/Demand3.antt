@@ -100,7 +100,8 @@ module _ (before : PlayerView) (j : List Entry) (count limit : ℕ) (done : firs
   opened-reached = record {
     inShape = opened-shaped;
     each = λ w h.
-        subst⁻¹ (λ c. Inv j c w (sideAt w (opened j first))) opened-current (subst⁻¹ (Inv j 0 w) (opened-side w (omega (arith, opened-count))) (new-inv j w));
+        subst⁻¹ (λ c. Inv j c w (sideAt w (opened j first))) opened-current
+        (subst⁻¹ (Inv j 0 w) (opened-side w (omega (arith, opened-count))) (new-inv j w));
   }
 
   delivers : (steps : List Step) → Delivers count (opened j first) steps
@@ -115,7 +116,8 @@ module _ (before : PlayerView) (j : List Entry) (count limit : ℕ) (done : firs
             (changes-bound 0 wd steps opened-reached (omega (arith, workLeft-most wd opened-reached)));
         finish = λ joined none w h.
             taken-all (run wd steps) reached none w (omega arith)
-            (joined-run wd steps w true opened-reached (omega (arith, opened-count)) (ap (λ p. isSuspended (p .view .condition)) (opened-side w h))
+            (joined-run wd steps w true opened-reached (omega (arith, opened-count))
+            (ap (λ p. isSuspended (p .view .condition)) (opened-side w h))
             ∙ ap not (joined w h));
       }
 

@@ -24,7 +24,8 @@ computed : Unit {0}
 unfolding
     replies run step opened withViews withPlayer onLine takeFront
     startRule areReports least mainRule catchRule writtenRule ackRule dropRule joinRule sendRule operate mapWindows
-    shape windowShape allWindows all check enqueue mainAt fetched catchIn catchAt readyIn batchOf launched sendAt writtenAt struck ackAt dropAt joinAt
+    shape windowShape allWindows all
+    check enqueue mainAt fetched catchIn catchAt readyIn batchOf launched sendAt writtenAt struck ackAt dropAt joinAt
     raceAfter racesAfter recordAfter takeEntry takeNumbers
     numbersOf entriesOf entryAt hasWindow isFor
 computed = tt

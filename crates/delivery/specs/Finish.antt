@@ -42,11 +42,13 @@ take-nil (suc n) (x ∷ q) k e = absurd (false≢true e)
 
 module _ (j : List Entry) (c w acked sent limit : ℕ) (some : 1 ≤ limit) (v : WindowView) where
   none-due : (n q : List ℕ) (s : Condition) → Queues j c w acked sent n q s → isSuspended s ≡ false →
-      isEmpty (batchOf limit (requeue n q s v) .indices) ≡ true → ((next end : ℕ) → s ≡ fetching next end → q ≡ [] → ⊥) → due j w sent c ≡ []
+      isEmpty (batchOf limit (requeue n q s v) .indices) ≡ true → ((next end : ℕ) → s ≡ fetching next end → q ≡ [] → ⊥) →
+      due j w sent c ≡ []
   none-due n q normal is here none stuck =
       sym (is .normalHas .own) ∙ take-nil limit n some (sym (ap (λ b. isEmpty (b .indices)) (batchOf-normal v limit n q)) ∙ none)
   none-due n q (fetching next end) is here none stuck =
-      absurd (stuck next end refl (take-nil limit q some (sym (ap (λ b. isEmpty (b .indices)) (batchOf-fetching v limit next end n q)) ∙ none)))
+      let law = batchOf-fetching v limit next end n q in
+      absurd (stuck next end refl (take-nil limit q some (sym (ap (λ b. isEmpty (b .indices)) law) ∙ none)))
   none-due n q (completed end) is here none stuck =
       ⊎-elim
       (λ (all : length q ≤ limit).
@@ -64,8 +66,9 @@ map-nil j [] e = refl
 map-nil j (x ∷ xs) e = absurd (let z : _≡_ {A = ℕ} 0 1 = cc in omega arith)
 
 -- a window that has all on the line taken, and nothing due after sent, has taken all
-taken-whole : (j : List Entry) (c w : ℕ) (p : Side) → Inv j c w p → p .line ≡ [] → due j w (p .view .sent) (length j) ≡ [] → p .taken ≡ own j w
-taken-whole j c w p inv line queued =
+taken-whole : {j : List Entry} {c w : ℕ} {p : Side} → Inv j c w p → p .line ≡ [] → due j w (p .view .sent) (length j) ≡ [] →
+    p .taken ≡ own j w
+taken-whole {j} {c} {w} {p} inv line queued =
     let on-line : due j w (lastOf p) (p .view .sent) ≡ [] = map-nil j _ (sym (ap lineEntries line) ∙ inv .flight .lineIs) in
     let split : due j w 0 (length j) ≡ due j w 0 (lastOf p)
     = due-split j w 0 (lastOf p) (length j) (omega arith) (inv .taken .lastIn)
@@ -131,15 +134,18 @@ module _ (wd : World) (r : Reached wd) (none : NoneCan wd) where
     back-empty [] e = refl
     back-empty (a ∷ rest) e =
         let un = rw e at (r .each w h .unacked) in
-        let out : elem (a .index) (v .batches) ≡ true = rw (un .batchesIs here, eq-eqb (a .index) (a .index) refl) in
+        let i : ℕ = a .index in
+        let out : elem i (v .batches) ≡ true = rw (un .batchesIs here, eq-eqb i i refl) in
+        let term : a .term ≡ windowAt w (playerIn wd) .term = un .backTerms .0 ∙ ap (λ x. x .term) (sym (window-in w wd)) in
         absurd (no-work w (ack w) refl
         (ack-works wd (r .inShape) w a rest h e
-        (subst⁻¹ (λ t. ackRule (numbersIn wd) w t (a .index) (playerIn wd) .answer ≡ 0) (un .backTerms .0 ∙ ap (λ x. x .term) (sym (window-in w wd)))
-        (ackRule-can (numbersIn wd) w (playerIn wd) (r .inShape) within (a .index) here′ (in-player (λ x. elem (a .index) (x .batches) ≡ true) out)))))
+        (subst⁻¹ (λ t. ackRule (numbersIn wd) w t i (playerIn wd) .answer ≡ 0) term
+        (ackRule-can (numbersIn wd) w (playerIn wd) (r .inShape) within i here′ (in-player (λ x. elem i (x .batches) ≡ true) out)))))
 
     few-out : length (sideAt w wd .view .batches) < 8
     unfolding endsOf
-    few-out = rw (r .each w h .unacked .batchesIs here, back-empty (sideAt w wd .back) refl, line-empty (sideAt w wd .line) refl) (omega arith)
+    few-out =
+        rw (r .each w h .unacked .batchesIs here, back-empty (sideAt w wd .back) refl, line-empty (sideAt w wd .line) refl) (omega arith)
 
     -- nothing is ready
     none-ready : isEmpty (batchOf (wd .limit) (sideAt w wd .view) .indices) ≡ true
@@ -165,7 +171,7 @@ module _ (wd : World) (r : Reached wd) (none : NoneCan wd) where
     pub taken-all : sideAt w wd .taken ≡ own (wd .journal) w
     taken-all =
         let limit = shaped (numbersIn wd) (playerIn wd) (r .inShape) .limitSome in
-        taken-whole (wd .journal) (wd .current) w (sideAt w wd) (r .each w h) (line-empty (sideAt w wd .line) refl)
+        taken-whole (r .each w h) (line-empty (sideAt w wd .line) refl)
         (rw (← all-read)
         (none-due (wd .journal) (wd .current) w (v .acked) (v .sent) (wd .limit) limit v (v .normalQueue) (v .catchQueue) (v .condition)
         (r .each w h .queues) here none-ready none-fetched))

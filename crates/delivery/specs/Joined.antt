@@ -147,4 +147,5 @@ pub joined-run : (wd : World) (ss : List Step) (w : ℕ) (b : Bool) → Reached 
 unfolding run joinedAfter
 joined-run wd [] w b r h is = is
 joined-run wd (s ∷ ss) w b r h is =
-    joined-run (step s wd .world) ss w (joinedBy w s (step s wd .reply) b) (reached-step wd s r) (omega (arith, step-count wd s r)) (joined-step wd s w b r h is)
+    joined-run (step s wd .world) ss w (joinedBy w s (step s wd .reply) b) (reached-step wd s r) (omega (arith, step-count wd s r))
+    (joined-step wd s w b r h is)

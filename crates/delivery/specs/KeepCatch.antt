@@ -57,10 +57,19 @@ module _ (j : List Entry) (c w : ℕ) (p : Side) (n q : List ℕ) (i u : ℕ) (i
       by : (q′ : List ℕ) → Holds j w (p .view .sent) u q′ → Kept (requeue n q′ (cond (isEmpty q′) normal (completed u)) (p .view))
       by [] has =
           keep-requeue n [] normal inv refl
-          (record { ahead = omega (arith, is .behind, is .order, is .read); normalHas = holds-append (omega (arith, is .behind, is .order)) (is .read) has (is .normalHas) })
+          (record {
+            ahead = omega (arith, is .behind, is .order, is .read);
+            normalHas = holds-append (omega (arith, is .behind, is .order)) (is .read) has (is .normalHas);
+          })
       by (x ∷ q′) has =
           keep-requeue n (x ∷ q′) (completed u) inv refl
-          (record { behind = omega (arith, is .behind, is .order); read = is .read; some = refl; catchHas = has; normalHas = is .normalHas })
+          (record {
+            behind = omega (arith, is .behind, is .order);
+            read = is .read;
+            some = refl;
+            catchHas = has;
+            normalHas = is .normalHas;
+          })
 
   keep-fetched : Kept (fetched (wanted j w i (p .view)) i u view)
   keep-fetched = ⊎-elim last more (le-or-lt u i)

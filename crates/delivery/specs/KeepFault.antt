@@ -43,9 +43,8 @@ keep-drop inv = record {
 -- Join and Start: both ways of the line are empty, and acknowledged and sent are the record's last index
 
 -- a window that begins anew from what it has taken
-pub begun : {j : List Entry} {c w : ℕ} (p : Side) (v : WindowView) → Taken j w (p .record′) (p .taken) → v .acked ≡ lastOf p → v .sent ≡ lastOf p →
-    v .busy ≡ false → v .batches ≡ [] → QueuesOf j c w v (v .condition) →
-    Inv j c w (cleared (withView v p))
+pub begun : {j : List Entry} {c w : ℕ} (p : Side) (v : WindowView) → Taken j w (p .record′) (p .taken) → v .acked ≡ lastOf p →
+    v .sent ≡ lastOf p → v .busy ≡ false → v .batches ≡ [] → QueuesOf j c w v (v .condition) → Inv j c w (cleared (withView v p))
 unfolding endsOf
 begun {j} {c} {w} p v taken acked sent free none queues = record {
   taken = taken;
@@ -60,13 +59,16 @@ begun {j} {c} {w} p v taken acked sent free none queues = record {
   busySent = λ h. absurd (true≢false (sym h ∙ free));
 }
 
-pub keep-start : {j : List Entry} {c c′ w : ℕ} {p : Side} → Inv j c w p → c′ ≤ lastOf p → Inv j c′ w (cleared (withView (started (lastOf p)) p))
-keep-start {p = p} inv h = begun p (started (lastOf p)) (inv .taken) refl refl refl refl (record { ahead = omega arith; normalHas = holds-none h })
+pub keep-start : {j : List Entry} {c c′ w : ℕ} {p : Side} → Inv j c w p → c′ ≤ lastOf p →
+    Inv j c′ w (cleared (withView (started (lastOf p)) p))
+keep-start {p = p} inv h =
+    begun p (started (lastOf p)) (inv .taken) refl refl refl refl (record { ahead = omega arith; normalHas = holds-none h })
 
 pub keep-join : {j : List Entry} {c w : ℕ} {p : Side} → Inv j c w p → isSuspended (p .view .condition) ≡ true →
     Inv j c w (cleared (withView (joined c (lastOf p) (p .view)) p))
 keep-join {j} {c} {w} {p} inv away =
-    begun p (joined c (lastOf p) (p .view)) (inv .taken) refl refl refl (inv .unacked .noBatches away) (by (p .view .condition) away (inv .queues))
+    begun p (joined c (lastOf p) (p .view)) (inv .taken) refl refl refl (inv .unacked .noBatches away)
+    (by (p .view .condition) away (inv .queues))
   where
     by : (s : Condition) → isSuspended s ≡ true → QueuesOf j c w (p .view) s →
         Queues j c w (lastOf p) (lastOf p) (p .view .normalQueue) (p .view .catchQueue) (joined c (lastOf p) (p .view) .condition)
@@ -104,23 +106,23 @@ module _ (j : List Entry) (e : Entry) (w : ℕ) where
   due-placed a b h =
       sym (placed-append a b (due j w a b) h (due-rising j w a b)) ∙ ap (map (placedAt longer)) (sym (due-append j e w a b h))
 
-  queues-append : (c acked sent : ℕ) (n q : List ℕ) (s : Condition) → c ≤ length j → Queues j c w acked sent n q s → Queues longer c w acked sent n q s
-  queues-append c acked sent n q normal h is = record { ahead = is .ahead; normalHas = holds-journal e h (is .normalHas) }
-  queues-append c acked sent n q (fetching next end) h is = record {
+  queues-append : (c : ℕ) (v : WindowView) (s : Condition) → c ≤ length j → QueuesOf j c w v s → QueuesOf longer c w v s
+  queues-append c v normal h is = record { ahead = is .ahead; normalHas = holds-journal e h (is .normalHas) }
+  queues-append c v (fetching next end) h is = record {
     behind = is .behind;
     order = is .order;
     read = is .read;
     catchHas = holds-journal e (omega (arith, is .order, is .read)) (is .catchHas);
     normalHas = holds-journal e h (is .normalHas);
   }
-  queues-append c acked sent n q (completed end) h is = record {
+  queues-append c v (completed end) h is = record {
     behind = is .behind;
     read = is .read;
     some = is .some;
     catchHas = holds-journal e (omega (arith, is .read)) (is .catchHas);
     normalHas = holds-journal e h (is .normalHas);
   }
-  queues-append c acked sent n q suspended h is = is
+  queues-append c v suspended h is = is
 
   pub keep-append : {c : ℕ} {p : Side} → c ≤ length j → Inv j c w p → Inv longer c w p
   keep-append {c} {p} h inv = record {
@@ -137,6 +139,6 @@ module _ (j : List Entry) (e : Entry) (w : ℕ) where
       lineTerms = inv .flight .lineTerms;
     };
     unacked = inv .unacked;
-    queues = queues-append c (p .view .acked) (p .view .sent) (p .view .normalQueue) (p .view .catchQueue) (p .view .condition) h (inv .queues);
+    queues = queues-append c (p .view) (p .view .condition) h (inv .queues);
     busySent = inv .busySent;
   }

@@ -37,8 +37,9 @@ keep-written inv = record {
 -- Ack
 
 -- the front ack is the oldest batch
-unacked-struck : {away : Bool} {t : Term} {acked last : ℕ} {batches : List ℕ} {line : List Sent} (a : Ack) {rest : List Ack} → away ≡ false →
-    Unacknowledged away t acked last batches line (a ∷ rest) → Unacknowledged away t (a .index) last (struck (a .index) batches) line rest
+unacked-struck : {away : Bool} {t : Term} {acked last : ℕ} {batches : List ℕ} {line : List Sent} (a : Ack) {rest : List Ack} →
+    away ≡ false → Unacknowledged away t acked last batches line (a ∷ rest) →
+    Unacknowledged away t (a .index) last (struck (a .index) batches) line rest
 unacked-struck {line = line} a {rest} here un = record {
   ackedLast = un .backRises .1;
   backTerms = un .backTerms .1;
@@ -76,7 +77,8 @@ pub record Front (j : List Entry) (w last sent : ℕ) (s : Sent) (rest : List Se
   pub placedIs : s .placed ≡ placedAt j (s .placed .index)
   pub restIs : lineEntries rest ≡ map (placedAt j) others
 
-pub front : {j : List Entry} {w last sent : ℕ} {t : Term} {s : Sent} {rest : List Sent} → InFlight j w last sent t (s ∷ rest) → Front j w last sent s rest
+pub front : {j : List Entry} {w last sent : ℕ} {t : Term} {s : Sent} {rest : List Sent} → InFlight j w last sent t (s ∷ rest) →
+    Front j w last sent s rest
 front {j} {w} {last} {sent} {t} {s} {rest} flight = by (due j w last sent) refl (flight .lineIs)
   where
     by : (l : List ℕ) → due j w last sent ≡ l → s .placed ∷ lineEntries rest ≡ map (placedAt j) l → Front j w last sent s rest
@@ -84,7 +86,12 @@ front {j} {w} {last} {sent} {t} {s} {rest} flight = by (due j w last sent) refl 
     by (x ∷ xs) d h =
         let placed : s .placed ≡ placedAt j x = cc in
         let index : s .placed .index ≡ x = ap (λ q. q .index) placed in
-        record { others = xs; begins = rw index (due-cons j w last sent x xs d); placedIs = placed ∙ ap (placedAt j) (sym index); restIs = cc }
+        record {
+          others = xs;
+          begins = rw index (due-cons j w last sent x xs d);
+          placedIs = placed ∙ ap (placedAt j) (sym index);
+          restIs = cc;
+        }
 
 -- the acks on the way back after the front of the line is taken
 abbrev ackedBack : Bool → Sent → List Ack → List Ack
@@ -100,8 +107,8 @@ count-small {j} {w} {r} {taken} is few =
     omega (arith, is .lastIn)
 
 module _ {j : List Entry} {w sent : ℕ} {s : Sent} {rest : List Sent} where
-  taken-more : {r : Record} {taken : List Placed} → Taken j w r taken → length j ≤ 65535 → sent ≤ length j → Front j w (r .last .0) sent s rest →
-      Taken j w (takeEntry (s .placed) r .record′) (taken ++ (s .placed ∷ []))
+  taken-more : {r : Record} {taken : List Placed} → Taken j w r taken → length j ≤ 65535 → sent ≤ length j →
+      Front j w (r .last .0) sent s rest → Taken j w (takeEntry (s .placed) r .record′) (taken ++ (s .placed ∷ []))
   taken-more {r} {taken} is few within f =
       let x : ℕ = s .placed .index in
       let last : takeEntry (s .placed) r .record′ .last .0 ≡ x = takeEntry-last (s .placed) r (count-small is few) in
@@ -117,7 +124,8 @@ module _ {j : List Entry} {w sent : ℕ} {s : Sent} {rest : List Sent} where
         recordIs = ap (λ r. takeEntry (s .placed) r .record′) (is .recordIs) ∙ sym (takeAll-snoc taken (s .placed) newRecord);
       }
 
-  flight-less : {last : ℕ} {t : Term} → InFlight j w last sent t (s ∷ rest) → Front j w last sent s rest → InFlight j w (s .placed .index) sent t rest
+  flight-less : {last : ℕ} {t : Term} → InFlight j w last sent t (s ∷ rest) → Front j w last sent s rest →
+      InFlight j w (s .placed .index) sent t rest
   flight-less is f = record {
     lastSent = f .begins .within;
     sentIn = is .sentIn;
@@ -128,9 +136,6 @@ module _ {j : List Entry} {w sent : ℕ} {s : Sent} {rest : List Sent} where
 -- an entry that ends its batch leaves the line, and its ack is on the way back
 module _ {away : Bool} {t : Term} {acked last : ℕ} {batches : List ℕ} {s : Sent} {rest : List Sent} {back : List Ack}
     (un : Unacknowledged away t acked last batches (s ∷ rest) back) (above : last < s .placed .index) where
-  x : ℕ
-  x = s .placed .index
-
   rises-after : (b : Bool) → Rising acked (backIndices (ackedBack b s back)) (s .placed .index)
   rises-after true =
       rw (map-append (λ a. a .index) back)
@@ -144,7 +149,8 @@ module _ {away : Bool} {t : Term} {acked last : ℕ} {batches : List ℕ} {s : S
 
   batches-after : (b : Bool) → batches ≡ backIndices back ++ cond b (s .placed .index ∷ endsOf rest) (endsOf rest) →
       batches ≡ backIndices (ackedBack b s back) ++ endsOf rest
-  batches-after true e = e ∙ rw (map-append (λ a. a .index) back) (sym (append-assoc (backIndices back) (s .placed .index ∷ []) (endsOf rest)))
+  batches-after true e =
+      e ∙ rw (map-append (λ a. a .index) back) (sym (append-assoc (backIndices back) (s .placed .index ∷ []) (endsOf rest)))
   batches-after false e = e
 
   unacked-taken : s .term ≡ t → Unacknowledged away t acked (s .placed .index) batches rest (ackedBack (s .ends) s back)

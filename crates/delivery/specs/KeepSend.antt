@@ -18,7 +18,7 @@ use Rattle.rules.specs.Shape.{isEmpty}
 use Rattle.rules.specs.Window.{isSuspended, requeue, Batch, batchOf, launched}
 use Rattle.rules.specs.Offers.{isEmpty-some, isEmpty-drop, batchOf-normal, batchOf-fetching, batchOf-more, batchOf-all, launched-is, SentOut}
 use Rattle.delivery.specs.World.{Sent, Ack, Side, withView, withLines, onLine}
-use Rattle.delivery.specs.Invariant.{InFlight, Unacknowledged, Holds, Queues, Inv, lastOf, backIndices, endsOf}
+use Rattle.delivery.specs.Invariant.{InFlight, Unacknowledged, Holds, Queues, Inv, backIndices, endsOf}
 use Rattle.delivery.specs.Lines.{lineTerms-append, endsOf-append, onLine-entries, onLine-terms, onLine-ends}
 use Rattle.delivery.specs.Queued.{HoldsCut, holds-append, holds-cut, withQueues}
 
@@ -34,9 +34,9 @@ pub record Launched (j : List Entry) (c w : ℕ) (b : Batch) (p : Side) : Type 0
 -- ------------------------------------------------------------------------
 -- The line and the unacknowledged batches, each with one batch more
 
-flight-more : (j : List Entry) (w last sent l : ℕ) (t : Term) (line : List Sent) (xs : List ℕ) → InFlight j w last sent t line → Holds j w sent l xs →
-    sent ≤ l → l ≤ length j → InFlight j w last l t (line ++ onLine j t xs)
-flight-more j w last sent l t line xs flight has h k = record {
+flight-more : {j : List Entry} {w last sent l : ℕ} {t : Term} {line : List Sent} {xs : List ℕ} → InFlight j w last sent t line →
+    Holds j w sent l xs → sent ≤ l → l ≤ length j → InFlight j w last l t (line ++ onLine j t xs)
+flight-more {j} {w} {last} {sent} {l} {t} {line} {xs} flight has h k = record {
   lastSent = omega (arith, flight .lastSent);
   sentIn = k;
   lineIs =
@@ -47,10 +47,10 @@ flight-more j w last sent l t line xs flight has h k = record {
   lineTerms = lineTerms-append t line (onLine j t xs) (flight .lineTerms) (onLine-terms j t xs);
 }
 
-unacked-more : (j : List Entry) (t : Term) (acked last : ℕ) (batches : List ℕ) (line : List Sent) (back : List Ack) (xs : List ℕ) →
-    Unacknowledged false t acked last batches line back → isEmpty xs ≡ false →
+unacked-more : (j : List Entry) {t : Term} {acked last : ℕ} {batches : List ℕ} {line : List Sent} {back : List Ack} (xs : List ℕ) →
+    isEmpty xs ≡ false → Unacknowledged false t acked last batches line back →
     Unacknowledged false t acked last (batches ++ (lastOr 0 xs ∷ [])) (line ++ onLine j t xs) back
-unacked-more j t acked last batches line back xs un some = record {
+unacked-more j {t} {line = line} {back} xs some un = record {
   ackedLast = un .ackedLast;
   backTerms = un .backTerms;
   backRises = un .backRises;
@@ -66,30 +66,28 @@ unacked-more j t acked last batches line back xs un some = record {
 
 module _ (j : List Entry) (c w : ℕ) (read : c ≤ length j) where
   -- a batch that is the first part of what is due up to b, with queues that have what is due after it
-  launch : (p : Side) (b : ℕ) (xs ys n q : List ℕ) (s : Condition) → Inv j c w p → isSuspended (p .view .condition) ≡ false → isSuspended s ≡ false →
-      b ≤ c → isEmpty xs ≡ false → Holds j w (p .view .sent) b (xs ++ ys) →
+  launch : {p : Side} (b : ℕ) (xs ys n q : List ℕ) (s : Condition) → Inv j c w p → isSuspended (p .view .condition) ≡ false →
+      isSuspended s ≡ false → b ≤ c → isEmpty xs ≡ false → Holds j w (p .view .sent) b (xs ++ ys) →
       (HoldsCut j w (p .view .sent) b xs ys → Queues j c w (p .view .acked) (lastOr 0 xs) n q s) →
       Launched j c w (record { indices = xs; rest = requeue n q s (p .view) }) p
-  launch p b xs ys n q s inv here here′ k some has queues =
+  launch {p} b xs ys n q s inv here here′ k some has queues =
       let cut : HoldsCut j w (p .view .sent) b xs ys = holds-cut xs some has in
       record {
         up = cut .up;
         inv =
-            subst⁻¹ (λ v. Inv j c w (withLines (p .line ++ onLine j (p .view .term) xs) (p .back) (withView v p))) (launched-is xs (requeue n q s (p .view)))
+            subst⁻¹ (λ v. Inv j c w (withLines (p .line ++ onLine j (p .view .term) xs) (p .back) (withView v p)))
+            (launched-is xs (requeue n q s (p .view)))
             (record {
               taken = inv .taken;
-              flight =
-                  flight-more j w (lastOf p) (p .view .sent) (lastOr 0 xs) (p .view .term) (p .line) xs (inv .flight) (cut .before) (omega (arith, cut .up))
-                  (omega (arith, cut .within));
-              unacked =
-                  rw here′
-                  (unacked-more j (p .view .term) (p .view .acked) (lastOf p) (p .view .batches) (p .line) (p .back) xs (rw here at (inv .unacked)) some);
+              flight = flight-more (inv .flight) (cut .before) (omega (arith, cut .up)) (omega (arith, cut .within));
+              unacked = rw here′ (unacked-more j xs some (rw here at (inv .unacked)));
               queues = queues cut;
               busySent = λ h. omega (arith, cut .up);
             });
       }
 
-  by-law : {p : Side} {b b′ : Batch} → b ≡ b′ → (isEmpty (b′ .indices) ≡ false → Launched j c w b′ p) → isEmpty (b .indices) ≡ false → Launched j c w b p
+  by-law : {p : Side} {b b′ : Batch} → b ≡ b′ → (isEmpty (b′ .indices) ≡ false → Launched j c w b′ p) → isEmpty (b .indices) ≡ false →
+      Launched j c w b p
   by-law {p} law = subst⁻¹ (λ x. isEmpty (x .indices) ≡ false → Launched j c w x p) law
 
   -- the first k of a queue, and the others
@@ -97,18 +95,20 @@ module _ (j : List Entry) (c w : ℕ) (read : c ≤ length j) where
   parted k q has = rw (take-append-drop k q) has
 
   keep-in : (p : Side) (limit : ℕ) (n q : List ℕ) (s : Condition) → Inv j c w (withQueues n q s p) → isSuspended s ≡ false →
-      isEmpty (batchOf limit (requeue n q s (p .view)) .indices) ≡ false → Launched j c w (batchOf limit (requeue n q s (p .view))) (withQueues n q s p)
+      isEmpty (batchOf limit (requeue n q s (p .view)) .indices) ≡ false →
+      Launched j c w (batchOf limit (requeue n q s (p .view))) (withQueues n q s p)
   keep-in p limit n q normal inv here =
       by-law (batchOf-normal (p .view) limit n q)
       (λ some.
-      launch _ c (take limit n) (drop limit n) (drop limit n) q normal inv refl refl (le-refl c) some (parted limit n (inv .queues .normalHas))
+      launch c (take limit n) (drop limit n) (drop limit n) q normal inv refl refl (le-refl c) some
+      (parted limit n (inv .queues .normalHas))
       (λ cut. record { ahead = omega (arith, cut .within); normalHas = cut .after }))
   keep-in p limit n q (fetching next end) inv here =
       let is = inv .queues in
       by-law (batchOf-fetching (p .view) limit next end n q)
       (λ some.
-      launch _ (next - 1) (take limit q) (drop limit q) n (drop limit q) (fetching next end) inv refl refl (omega (arith, is .order, is .read)) some
-      (parted limit q (is .catchHas))
+      launch (next - 1) (take limit q) (drop limit q) n (drop limit q) (fetching next end) inv refl refl
+      (omega (arith, is .order, is .read)) some (parted limit q (is .catchHas))
       (λ cut. record {
         behind = omega (arith, cut .within, is .behind);
         order = is .order;
@@ -123,13 +123,14 @@ module _ (j : List Entry) (c w : ℕ) (read : c ≤ length j) where
       let m : ℕ = limit - length q in
       by-law (batchOf-all (p .view) limit end n q (isEmpty-some q (is .some)) all)
       (λ some.
-      launch _ c (q ++ take m n) (drop m n) (drop m n) [] normal inv refl refl (le-refl c) some
+      launch c (q ++ take m n) (drop m n) (drop m n) [] normal inv refl refl (le-refl c) some
       (rw append-assoc (holds-append (is .behind) (is .read) (is .catchHas) (parted m n (is .normalHas))))
       (λ cut. record { ahead = omega (arith, cut .within); normalHas = cut .after })))
       (λ (more : limit < length q).
       by-law (batchOf-more (p .view) limit end n q more)
       (λ some.
-      launch _ end (take limit q) (drop limit q) n (drop limit q) (completed end) inv refl refl (is .read) some (parted limit q (is .catchHas))
+      launch end (take limit q) (drop limit q) n (drop limit q) (completed end) inv refl refl (is .read) some
+      (parted limit q (is .catchHas))
       (λ cut. record {
         behind = cut .within;
         read = is .read;
@@ -141,4 +142,5 @@ module _ (j : List Entry) (c w : ℕ) (read : c ≤ length j) where
   keep-in p limit n q suspended inv here = absurd (true≢false here)
 
   pub keep-send : (p : Side) → Inv j c w p → (limit size : ℕ) → SentOut limit size (p .view) → Launched j c w (batchOf limit (p .view)) p
-  keep-send p inv limit size out = keep-in p limit (p .view .normalQueue) (p .view .catchQueue) (p .view .condition) inv (out .here) (out .some)
+  keep-send p inv limit size out =
+      keep-in p limit (p .view .normalQueue) (p .view .catchQueue) (p .view .condition) inv (out .here) (out .some)

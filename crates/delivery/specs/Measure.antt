@@ -79,7 +79,8 @@ module _ {j : List Entry} {c w : ℕ} {p : Side} (inv : Inv j c w p) (read : c �
       was : ahead (length j) c (p .view .condition) ≡ length j - i + 1
       was = ap (ahead (length j) c) e
 
-      past : upto ≤ i → (t : Bool) → viewWork (length j) c (requeue (p .view .normalQueue) (p .view .catchQueue ++ oneIf b i) (cond t normal (completed upto)) (p .view))
+      past : upto ≤ i → (t : Bool) →
+          viewWork (length j) c (requeue (p .view .normalQueue) (p .view .catchQueue ++ oneIf b i) (cond t normal (completed upto)) (p .view))
           < viewWork (length j) c (p .view)
       past h true = omega (arith, was, is .order, is .read)
       past h false = omega (arith, was, is .order, is .read)

@@ -57,7 +57,8 @@ module _ {j : List Entry} {w : ℕ} where
   holds-to e is = record { own = is .own ∙ ap (due j w _) e }
 
   -- one more index joins the queue, if it is the window's own
-  pub holds-more : {a b : ℕ} {q : List ℕ} (t : Bool) → isFor j w (suc b) ≡ t → a ≤ b → Holds j w a b q → Holds j w a (suc b) (q ++ oneIf t (suc b))
+  pub holds-more : {a b : ℕ} {q : List ℕ} (t : Bool) → isFor j w (suc b) ≡ t → a ≤ b → Holds j w a b q →
+      Holds j w a (suc b) (q ++ oneIf t (suc b))
   holds-more {a} {b} t e h is = record {
     own = ap₂ (λ l t. l ++ oneIf t (suc b)) (is .own) (sym e) ∙ sym (due-more j w a b h);
   }

@@ -1,5 +1,5 @@
--- Every world of a run is reached: the beginning is, and each step keeps it.
-use Prim.Native.Nat.{ℕ, suc, _%_, _≤_, _<_}
+-- Every world of a run is reached: the beginning is, and each step leads on to another.
+use Prim.Native.Nat.{ℕ, _%_, _≤_, _<_}
 use mathlib.Core.Path.{_≡_, refl, ap, subst, subst⁻¹, _∙_}
 use mathlib.Core.List.{List, [], _∷_, _++_}
 use mathlib.Core.Bool.{true}
@@ -32,19 +32,20 @@ read-in wd r = omega (arith, shaped (numbersIn wd) (playerIn wd) (r .inShape) .c
 
 pub few-in : (wd : World) → Reached wd → length (wd .journal) ≤ 65535
 few-in wd r =
-    let whole : leb (countOf (numbersIn wd)) 65535 ≡ true
-    = and-right (eqb (length (numbersIn wd) % 4) 0) (leb (countOf (numbersIn wd)) 65535) (shaped (numbersIn wd) (playerIn wd) (r .inShape) .journal) in
+    let journal = shaped (numbersIn wd) (playerIn wd) (r .inShape) .journal in
+    let whole : leb (countOf (numbersIn wd)) 65535 ≡ true = and-right (eqb (length (numbersIn wd) % 4) 0) _ journal in
     omega (arith, leb-true (countOf (numbersIn wd)) 65535 whole, count-in wd)
 
 -- ------------------------------------------------------------------------
 -- one side
 
-pub keep-worked : (j : List Entry) (c limit w : ℕ) (p p′ : Side) → c ≤ length j → length j ≤ 65535 → Inv j c w p → Worked j limit w p p′ → Inv j c w p′
-keep-worked j c limit w p p′ read few inv (caught t i k e) = rw e (keep-catch j c w p inv t i k)
-keep-worked j c limit w p p′ read few inv (sent size out e) = rw e (keep-send j c w read p inv limit size out .inv)
-keep-worked j c limit w p p′ read few inv (written t off e) = rw e (keep-written inv)
-keep-worked j c limit w p p′ read few inv (took s rest front e) = rw e (keep-take inv few s rest front)
-keep-worked j c limit w p p′ read few inv (acked a rest front taken e) = rw e (keep-ack inv a rest front taken)
+pub keep-worked : {j : List Entry} {c limit w : ℕ} {p p′ : Side} → c ≤ length j → length j ≤ 65535 → Inv j c w p →
+    Worked j limit w p p′ → Inv j c w p′
+keep-worked read few inv (caught t i k e) = rw e (keep-catch _ _ _ _ inv t i k)
+keep-worked read few inv (sent size out e) = rw e (keep-send _ _ _ read _ inv _ size out .inv)
+keep-worked read few inv (written t off e) = rw e (keep-written inv)
+keep-worked read few inv (took s rest front e) = rw e (keep-take inv few s rest front)
+keep-worked read few inv (acked a rest front taken e) = rw e (keep-ack inv a rest front taken)
 
 -- ------------------------------------------------------------------------
 -- one side of a world replaced
@@ -56,7 +57,8 @@ replaced wd wd′ w p′ r h e s inv =
     (record {
       inShape = subst (λ x. shape (numbersIn x) (playerIn x) ≡ true) e s;
       each = λ v k.
-          getD-set-each (Inv (wd .journal) (wd .current)) (wd .sides) w v p′ noSide h inv (λ n. r .each v (omega (arith, withSide-count w p′ wd)));
+          getD-set-each (Inv (wd .journal) (wd .current)) (wd .sides) w v p′ noSide h inv
+          (λ n. r .each v (omega (arith, withSide-count w p′ wd)));
     })
 
 -- ------------------------------------------------------------------------
@@ -68,21 +70,17 @@ reached-work wd wd′ r (mains m) = record {
   inShape = m .shaped;
   each = λ w h.
       let h′ : w < length (wd .sides) = omega (arith, m .count) in
-      subst⁻¹ (λ j. Inv j (wd′ .current) w (sideAt w wd′)) (m .journal)
-      (subst⁻¹ (λ c. Inv (wd .journal) c w (sideAt w wd′)) (m .current)
-      (subst⁻¹ (Inv (wd .journal) (suc (wd .current)) w) (m .each w h′) (keep-main (wd .journal) (wd .current) w (sideAt w wd) (r .each w h′))));
+      rw (m .journal, m .current, m .each w h′) (keep-main (wd .journal) (wd .current) w (sideAt w wd) (r .each w h′));
 }
 reached-work wd wd′ r (works w h p′ work e s) =
-    replaced wd wd′ w p′ r h e s (keep-worked (wd .journal) (wd .current) (wd .limit) w (sideAt w wd) p′ (read-in wd r) (few-in wd r) (r .each w h) work)
+    replaced wd wd′ w p′ r h e s (keep-worked (read-in wd r) (few-in wd r) (r .each w h) work)
 
 reached-restart : (wd wd′ : World) → Reached wd → Restarted wd wd′ → Reached wd′
 reached-restart wd wd′ r m = record {
   inShape = m .shaped;
   each = λ w h.
       let h′ : w < length (wd .sides) = omega (arith, m .count) in
-      subst⁻¹ (λ j. Inv j (wd′ .current) w (sideAt w wd′)) (m .journal)
-      (subst⁻¹ (Inv (wd .journal) (wd′ .current) w) (m .each w h′)
-      (keep-start (r .each w h′) (m .least w h′)));
+      rw (m .journal, m .each w h′) (keep-start (r .each w h′) (m .least w h′));
 }
 
 numbersOf-append : (j : List Entry) (e : Entry) → numbersOf (j ++ (e ∷ [])) ≡ numbersOf j ++ numbersOf (e ∷ [])

@@ -20,7 +20,8 @@ record Decides {A : Type 0} (f : A → A → Bool) : Type 0 where
   equal : (a b : A) → f a b ≡ true → a ≡ b
 
 infixr 20 _&_
-_&_ : {A B : Type 0} {f : A → A → Bool} {g : B → B → Bool} → Decides f → Decides g → Decides {A = A × B} (λ a b. f (a .0) (b .0) && g (a .1) (b .1))
+_&_ : {A B : Type 0} {f : A → A → Bool} {g : B → B → Bool} → Decides f → Decides g →
+    Decides {A = A × B} (λ a b. f (a .0) (b .0) && g (a .1) (b .1))
 _&_ {f = f} d e = record {
   itself = λ a. and-intro (d .itself (a .0)) (e .itself (a .1));
   equal = λ a b h. ap₂ (λ x y. (x, y)) (d .equal _ _ (and-left _ _ h)) (e .equal _ _ (and-right (f (a .0) (b .0)) _ h));

@@ -108,7 +108,7 @@ worked-roomy j c limit w p p′ few inv r (acked a rest front d e) =
 worked-roomy j c limit w p p′ few inv r (sent size d e) =
     let is : List ℕ = batchOf limit (p .view) .indices in
     let held : length (p .view .batches) ≡ length (p .back) + length (endsOf (p .line))
-    = ap length (inv .batchesIs (d .here)) ∙ length-append (backIndices (p .back)) (endsOf (p .line))
+    = ap length (inv .unacked .batchesIs (d .here)) ∙ length-append (backIndices (p .back)) (endsOf (p .line))
     ∙ ap (λ n. n + length (endsOf (p .line))) (length-map (p .back) (λ a. a .index)) in
     let ends : length (endsOf (p .line ++ onLine j (p .view .term) is)) ≡ length (endsOf (p .line)) + 1
     = ap length (endsOf-append (p .line) (onLine j (p .view .term) is)) ∙ length-append (endsOf (p .line)) (endsOf (onLine j (p .view .term) is))
