@@ -22,8 +22,9 @@ use Rattle.player.specs.Promise.{Meets}
 use Rattle.delivery.specs.World.{numbersIn, playerIn, answered, called}
 use Rattle.delivery.specs.World as W
 use Rattle.script.specs.declared.Stage.{Stage}
-use Rattle.script.specs.declared.Step.{Step}
-use Rattle.script.specs.declared.Step.the-variants.{Main, Catch, Written, Drop}
+use Rattle.script_line.specs.declared.Step.{Step}
+use Rattle.script_line.specs.declared.Step.the-variants.{Main, At}
+use Rattle.script_line.specs.declared.Verb.the-variants.{Catch, Written, Drop}
 use Rattle.script.specs.Stage.{worldOf, forgotten, dueIn, stepIn, windowOf}
 use Rattle.script.specs.Promise.{playable, Playable, Steps}
 use Rattle.script.specs.Stored.{trackAt, calledBy}
@@ -82,28 +83,28 @@ module _ (ns : List ℕ) (s : Stage) (h : Staged s) (e : inShape ns ≡ true) wh
 
   module _ (w : ℕ) (r : Played) where
     pub catch-steps : (t : Term) (i : ℕ) → t ≡ windowAt w (playerOf (s .player)) .term → i ≡ dueIn (windowAt w (playerOf (s .player)) .condition) →
-        Meets (s .player) r (catchRule ns w t i (playerOf (s .player))) → Steps (entriesOf ns) s (Catch w) (calledBy s r)
+        Meets (s .player) r (catchRule ns w t i (playerOf (s .player))) → Steps (entriesOf ns) s (At Catch w) (calledBy s r)
     unfolding W.step
     catch-steps t i current due k =
-        called-steps (Catch w) r (catchRule ns w t i (playerOf (s .player)))
+        called-steps (At Catch w) r (catchRule ns w t i (playerOf (s .player)))
         (ap (λ v. W.step (W.catch w (v .term) (dueIn (v .condition))) (worldOf (entriesOf ns) s)) (worldOf-view (entriesOf ns) s h w)
         ∙ ap₂ (λ t i. W.step (W.catch w t i) (worldOf (entriesOf ns) s)) (sym current) (sym due)
         ∙ ap (λ o. called o (worldOf (entriesOf ns) s)) (rule-here (λ n p. catchRule n w t i p)))
         k (catchRule-terms ns w t i (playerOf (s .player)))
 
     pub written-steps : (t : Term) → t ≡ windowAt w (playerOf (s .player)) .term → Meets (s .player) r (writtenRule ns w t (playerOf (s .player))) →
-        Steps (entriesOf ns) s (Written w) (calledBy s r)
+        Steps (entriesOf ns) s (At Written w) (calledBy s r)
     unfolding W.step
     written-steps t current k =
-        called-steps (Written w) r (writtenRule ns w t (playerOf (s .player)))
+        called-steps (At Written w) r (writtenRule ns w t (playerOf (s .player)))
         (ap (λ v. W.step (W.written w (v .term)) (worldOf (entriesOf ns) s)) (worldOf-view (entriesOf ns) s h w)
         ∙ ap (λ t. W.step (W.written w t) (worldOf (entriesOf ns) s)) (sym current)
         ∙ ap (λ o. called o (worldOf (entriesOf ns) s)) (rule-here (λ n p. writtenRule n w t p)))
         k (writtenRule-terms ns w t (playerOf (s .player)))
 
-    pub drop-steps : Meets (s .player) r (dropRule ns w (playerOf (s .player))) → Steps (entriesOf ns) s (Drop w) (calledBy s r)
+    pub drop-steps : Meets (s .player) r (dropRule ns w (playerOf (s .player))) → Steps (entriesOf ns) s (At Drop w) (calledBy s r)
     unfolding W.step
     drop-steps k =
-        called-steps (Drop w) r (dropRule ns w (playerOf (s .player)))
+        called-steps (At Drop w) r (dropRule ns w (playerOf (s .player)))
         (ap (λ o. called o (worldOf (entriesOf ns) s)) (rule-here (λ n p. dropRule n w p)))
         k (dropRule-terms ns w (playerOf (s .player)))

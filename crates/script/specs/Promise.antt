@@ -9,7 +9,7 @@ use Rattle.journal.specs.Entry.{inShape, entriesOf}
 use Rattle.queue.specs.Items.{itemsOf}
 use Rattle.delivery.specs.World as W
 use Rattle.script.specs.declared.Stage.{Stage}
-use Rattle.script.specs.declared.Step.{Step}
+use Rattle.script_line.specs.declared.Step.{Step}
 use Rattle.script.specs.declared.Reply.the-variants.{Answered}
 use Rattle.script.specs.declared.Stepped.{Stepped}
 use Rattle.script.specs.Stage.{worldOf, forgotten, stepIn, replyOf, noTrack, fits}

@@ -29,7 +29,8 @@ use Rattle.delivery.specs.World.{Side, World, sideAt, playerIn, withLines, onLi
 use Rattle.delivery.specs.World as W
 use Rattle.script.specs.declared.Track.{Track}
 use Rattle.script.specs.declared.Stage.{Stage}
-use Rattle.script.specs.declared.Step.the-variants.{Send}
+use Rattle.script_line.specs.declared.Step.the-variants.{At}
+use Rattle.script_line.specs.declared.Verb.the-variants.{Send}
 use Rattle.script.specs.Stage.{sentOf, ackOf, worldOf}
 use Rattle.script.specs.Promise.{Steps}
 use Rattle.script.specs.Stored.{trackAt, loadedBy, settledBy}
@@ -149,14 +150,14 @@ module _ (j : List Entry) (t : Term) where
 pub send-steps : (ns : List ℕ) (s : Stage) (h : Staged s) (e : inShape ns ≡ true) (w a b : ℕ) (r : Played) (t : Track) →
     (w < s .player .count → length (itemsOf (trackAt w s .line)) ≤ 126) → Meets (s .player) r (sendRule ns w 10 (playerOf (s .player))) → Shows ns w (playerOf (s .player)) a b →
     itemsOf (t .line) ≡ loadedBy a b (itemsOf (trackAt w s .line)) → itemsOf (t .back) ≡ itemsOf (trackAt w s .back) →
-    Steps (entriesOf ns) s (Send w) (settledBy s r w t)
+    Steps (entriesOf ns) s (At Send w) (settledBy s r w t)
 unfolding W.step worldOf
 send-steps ns s h e w a b r t room k shows line back =
     let j : List Entry = entriesOf ns in
     let wd : World = worldOf (entriesOf ns) s in
     let v : WindowView = windowAt w (playerOf (s .player)) in
     let g : Side → Side = λ x. withLines (x .line ++ onLine j (sideAt w wd .view .term) (batchAt w (playerIn wd))) (x .back) x in
-    settled-steps ns s h (Send w) w r (sendRule ns w 10 (playerOf (s .player))) t (launch w wd)
+    settled-steps ns s h (At Send w) w r (sendRule ns w 10 (playerOf (s .player))) t (launch w wd)
     (ap (λ o. calledThen o (launch w wd) wd) (rule-here ns s h e (λ n p. sendRule n w 10 p)))
     k
     (λ z.

@@ -34,8 +34,9 @@ use Rattle.delivery.specs.Worlds.{withPlayer-same, withPlayer-window, withSide-
 use Rattle.delivery.specs.Stepped.{calledThen-refused, calledThen-done}
 use Rattle.script.specs.declared.Track.{Track}
 use Rattle.script.specs.declared.Stage.{Stage}
-use Rattle.script.specs.declared.Step.{Step}
-use Rattle.script.specs.declared.Step.the-variants.{Ack, Join, Take}
+use Rattle.script_line.specs.declared.Step.{Step}
+use Rattle.script_line.specs.declared.Step.the-variants.{At}
+use Rattle.script_line.specs.declared.Verb.the-variants.{Ack, Join, Take}
 use Rattle.script.specs.declared.Reply.the-variants.{Answered, Empty}
 use Rattle.script.specs.Stage.{sentOf, ackOf, sideOf, worldOf, forget, forgotten, stepIn}
 use Rattle.script.specs.Promise.{Steps}
@@ -131,10 +132,10 @@ module _ (ns : List ℕ) (s : Stage) (h : Staged s) where
 
   module _ (e : inShape ns ≡ true) where
     pub join-steps : (w : ℕ) (r : Played) (t : Track) → Meets (s .player) r (joinRule ns w (recordAt w s .last .0) (playerOf (s .player))) →
-        itemsOf (t .line) ≡ [] → itemsOf (t .back) ≡ [] → Steps (entriesOf ns) s (Join w) (settledBy s r w t)
+        itemsOf (t .line) ≡ [] → itemsOf (t .back) ≡ [] → Steps (entriesOf ns) s (At Join w) (settledBy s r w t)
     unfolding W.step
     join-steps w r t k a b =
-        settled-steps (Join w) w r (joinRule ns w (recordAt w s .last .0) (playerOf (s .player))) t (λ x. withSide w (cleared (sideAt w x)) x)
+        settled-steps (At Join w) w r (joinRule ns w (recordAt w s .last .0) (playerOf (s .player))) t (λ x. withSide w (cleared (sideAt w x)) x)
         (ap (λ x. calledThen (joinRule (numbersIn (worldOf (entriesOf ns) s)) w (x .last .0) (playerIn (worldOf (entriesOf ns) s))) (λ x. withSide w (cleared (sideAt w x)) x) (worldOf (entriesOf ns) s)) (recordAt-side w)
         ∙ ap (λ o. calledThen o (λ x. withSide w (cleared (sideAt w x)) x) (worldOf (entriesOf ns) s)) (rule-here ns s h e (λ n p. joinRule n w (recordAt w s .last .0) p)))
         k
@@ -146,7 +147,7 @@ module _ (ns : List ℕ) (s : Stage) (h : Staged s) where
     -- Ack
 
     module _ (w : ℕ) where
-      pub ack-none : s .player .count ≤ w → Steps (entriesOf ns) s (Ack w) (record { reply = Answered 2; stage = s })
+      pub ack-none : s .player .count ≤ w → Steps (entriesOf ns) s (At Ack w) (record { reply = Answered 2; stage = s })
       unfolding W.step
       ack-none l =
           let out = le-ltb w (length (worldOf (entriesOf ns) s .sides)) (omega (arith, worldOf-count (entriesOf ns) s)) in
@@ -160,18 +161,18 @@ module _ (ns : List ℕ) (s : Stage) (h : Staged s) where
           (ap (λ b. ackAtLine w b (worldOf (entriesOf ns) s))
           (ap (λ p. p .back) (worldOf-side (entriesOf ns) s h w l) ∙ ap (map (ackOf (windowAt w (playerOf (s .player)) .term))) front))
 
-      pub ack-empty : w < s .player .count → itemsOf (trackAt w s .back) ≡ [] → Steps (entriesOf ns) s (Ack w) (record { reply = Empty; stage = s })
+      pub ack-empty : w < s .player .count → itemsOf (trackAt w s .back) ≡ [] → Steps (entriesOf ns) s (At Ack w) (record { reply = Empty; stage = s })
       ack-empty l front =
           let is = ack-line l [] front in
           record { reply = sym (ap (λ x. x .reply) is); world = sym (worldOf-forgotten (entriesOf ns) s) ∙ sym (ap (λ x. forgotten (x .world)) is) }
 
       pub ack-steps : w < s .player .count → (t : Term) (i : ℕ) (rest : List ℕ) (r : Played) (u : Track) → t ≡ windowAt w (playerOf (s .player)) .term →
           itemsOf (trackAt w s .back) ≡ i ∷ rest → Meets (s .player) r (ackRule ns w t i (playerOf (s .player))) →
-          itemsOf (u .line) ≡ itemsOf (trackAt w s .line) → itemsOf (u .back) ≡ rest → Steps (entriesOf ns) s (Ack w) (settledBy s r w u)
+          itemsOf (u .line) ≡ itemsOf (trackAt w s .line) → itemsOf (u .back) ≡ rest → Steps (entriesOf ns) s (At Ack w) (settledBy s r w u)
       ack-steps l t i rest r u current front k a b =
           let acks : List W.Ack = map (ackOf (windowAt w (playerOf (s .player)) .term)) rest in
           let g : Side → Side = λ p. withLines (p .line) acks p in
-          settled-steps (Ack w) w r (ackRule ns w t i (playerOf (s .player))) u (λ x. withSide w (g (sideAt w x)) x)
+          settled-steps (At Ack w) w r (ackRule ns w t i (playerOf (s .player))) u (λ x. withSide w (g (sideAt w x)) x)
           (ack-line l (i ∷ rest) front
           ∙ ap (λ o. calledThen o (λ x. withSide w (g (sideAt w x)) x) (worldOf (entriesOf ns) s))
           (rule-here ns s h e (λ n p. ackRule n w (windowAt w (playerOf (s .player)) .term) i p) ∙ ap (λ t. ackRule ns w t i (playerOf (s .player))) (sym current)))
@@ -183,7 +184,7 @@ module _ (ns : List ℕ) (s : Stage) (h : Staged s) where
       -- ------------------------------------------------------------------------
       -- Take
 
-      pub take-none : s .player .count ≤ w → Steps (entriesOf ns) s (Take w) (record { reply = Answered 2; stage = s })
+      pub take-none : s .player .count ≤ w → Steps (entriesOf ns) s (At Take w) (record { reply = Answered 2; stage = s })
       unfolding W.step
       take-none l =
           let out = le-ltb w (length (worldOf (entriesOf ns) s .sides)) (omega (arith, worldOf-count (entriesOf ns) s)) in
@@ -197,7 +198,7 @@ module _ (ns : List ℕ) (s : Stage) (h : Staged s) where
           (ap (λ b. takeAtLine w b (worldOf (entriesOf ns) s))
           (ap (λ p. p .line) (worldOf-side (entriesOf ns) s h w l) ∙ ap (map (sentOf (entriesOf ns) (windowAt w (playerOf (s .player)) .term))) front))
 
-      pub take-empty : w < s .player .count → itemsOf (trackAt w s .line) ≡ [] → Steps (entriesOf ns) s (Take w) (record { reply = Empty; stage = s })
+      pub take-empty : w < s .player .count → itemsOf (trackAt w s .line) ≡ [] → Steps (entriesOf ns) s (At Take w) (record { reply = Empty; stage = s })
       take-empty l front =
           let is = take-line l [] front in
           record { reply = sym (ap (λ x. x .reply) is); world = sym (worldOf-forgotten (entriesOf ns) s) ∙ sym (ap (λ x. forgotten (x .world)) is) }
@@ -214,7 +215,7 @@ module _ (ns : List ℕ) (s : Stage) (h : Staged s) where
       pub take-steps : w < s .player .count → (code : ℕ) (rest : List ℕ) (x : Record) (en : Entry) (r : Taken) (t : Track) →
           itemsOf (trackAt w s .line) ≡ code ∷ rest → length (itemsOf (trackAt w s .back)) < 128 → x ≡ recordAt w s → en ≡ entryAt (entriesOf ns) (code / 2) →
           outcomeOf r ≡ takeEntry (record { index = code / 2; entry = en }) x →
-          itemsOf (t .line) ≡ rest → itemsOf (t .back) ≡ ackPushed code (itemsOf (trackAt w s .back)) → Steps (entriesOf ns) s (Take w) (tookBy s r w t)
+          itemsOf (t .line) ≡ rest → itemsOf (t .back) ≡ ackPushed code (itemsOf (trackAt w s .back)) → Steps (entriesOf ns) s (At Take w) (tookBy s r w t)
       unfolding takeFront
       take-steps l code rest x en r t front room own read k a b =
           let v : WindowView = windowAt w (playerOf (s .player)) in

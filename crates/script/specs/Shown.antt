@@ -20,8 +20,9 @@ use Rattle.delivery.specs.World.{Sent, Ack, Side, World, noSide, sideAt, number
 use Rattle.delivery.specs.World as W
 use Rattle.delivery.specs.Worlds.{windows-in}
 use Rattle.script.specs.declared.Stage.{Stage}
-use Rattle.script.specs.declared.Step.{Step}
-use Rattle.script.specs.declared.Step.the-variants.{Main, Catch, Send, Written, Ack as AckStep, Drop, Join, Take}
+use Rattle.script_line.specs.declared.Step.{Step}
+use Rattle.script_line.specs.declared.Step.the-variants.{Main, At}
+use Rattle.script_line.specs.declared.Verb.the-variants.{Catch, Send, Written, Ack as AckStep, Drop, Join, Take}
 use Rattle.script.specs.declared.Stepped.{Stepped}
 use Rattle.script.specs.Stage.{worldOf, forget, forgotten, dueIn, stepIn, replyOf, windowOf, fits}
 use Rattle.script.specs.Promise.{Steps, Plays}
@@ -128,10 +129,10 @@ line-alike r wd w a b same =
 pub step-alike : (wd : World) (s : Step) → Alike (W.step (stepIn (forgotten wd) s) (forgotten wd)) (W.step (stepIn wd s) wd)
 unfolding W.step forgotten
 step-alike wd Main = alike-called (λ p. mainRule (numbersIn wd) (wd .current + 1) p) wd
-step-alike wd (Catch w) =
-    subst⁻¹ (λ x. Alike (W.step (W.catch w (x .view .term) (dueIn (x .view .condition))) (forgotten wd)) (W.step (stepIn wd (Catch w)) wd)) (forgotten-at w wd)
+step-alike wd (At Catch w) =
+    subst⁻¹ (λ x. Alike (W.step (W.catch w (x .view .term) (dueIn (x .view .condition))) (forgotten wd)) (W.step (stepIn wd (At Catch w)) wd)) (forgotten-at w wd)
     (alike-called (λ p. catchRule (numbersIn wd) w (sideAt w wd .view .term) (dueIn (sideAt w wd .view .condition)) p) wd)
-step-alike wd (Send w) =
+step-alike wd (At Send w) =
     alike-then (λ p. sendRule (numbersIn wd) w 10 p) (launch w (forgotten wd)) (launch w wd) wd
     (λ x.
     side-alike w
@@ -139,19 +140,19 @@ step-alike wd (Send w) =
     (λ p. withLines (p .line ++ onLine (wd .journal) (sideAt w wd .view .term) (batchAt w (playerIn wd))) (p .back) p) x
     (ap₂ (λ t is. forget (withLines (sideAt w x .line ++ onLine (wd .journal) t is) (sideAt w x .back) (sideAt w x)))
     (ap (λ p. p .view .term) (forgotten-at w wd)) (ap (batchAt w) (forgotten-in wd))))
-step-alike wd (Written w) =
-    subst⁻¹ (λ x. Alike (W.step (W.written w (x .view .term)) (forgotten wd)) (W.step (stepIn wd (Written w)) wd)) (forgotten-at w wd)
+step-alike wd (At Written w) =
+    subst⁻¹ (λ x. Alike (W.step (W.written w (x .view .term)) (forgotten wd)) (W.step (stepIn wd (At Written w)) wd)) (forgotten-at w wd)
     (alike-called (λ p. writtenRule (numbersIn wd) w (sideAt w wd .view .term) p) wd)
-step-alike wd (AckStep w) =
+step-alike wd (At AckStep w) =
     line-alike (answered 2) wd w _ _
     (subst⁻¹ (λ x. Alike (ackAtLine w (x .back) (forgotten wd)) (ackAtLine w (sideAt w wd .back) wd)) (forgotten-at w wd) (ack-alike w wd (sideAt w wd .back)))
-step-alike wd (Drop w) = alike-called (λ p. dropRule (numbersIn wd) w p) wd
-step-alike wd (Join w) =
+step-alike wd (At Drop w) = alike-called (λ p. dropRule (numbersIn wd) w p) wd
+step-alike wd (At Join w) =
     subst⁻¹ (λ x. Alike (calledThen (joinRule (numbersIn wd) w (x .record′ .last .0) (playerIn (forgotten wd))) (λ y. withSide w (cleared (sideAt w y)) y) (forgotten wd))
-    (W.step (stepIn wd (Join w)) wd)) (forgotten-at w wd)
+    (W.step (stepIn wd (At Join w)) wd)) (forgotten-at w wd)
     (alike-then (λ p. joinRule (numbersIn wd) w (sideAt w wd .record′ .last .0) p) (λ y. withSide w (cleared (sideAt w y)) y)
     (λ y. withSide w (cleared (sideAt w y)) y) wd (λ x. side-alike w cleared cleared x refl))
-step-alike wd (Take w) =
+step-alike wd (At Take w) =
     line-alike (answered 2) wd w _ _
     (subst⁻¹ (λ x. Alike (takeAtLine w (x .line) (forgotten wd)) (takeAtLine w (sideAt w wd .line) wd)) (forgotten-at w wd) (take-alike w wd (sideAt w wd .line)))
 

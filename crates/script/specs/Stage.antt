@@ -15,8 +15,9 @@ use Rattle.delivery.specs.World.{Sent, Ack, Side, World, noSide, sideAt, answer
 use Rattle.delivery.specs.World as W
 use Rattle.script.specs.declared.Track.{Track}
 use Rattle.script.specs.declared.Stage.{Stage}
-use Rattle.script.specs.declared.Step.{Step}
-use Rattle.script.specs.declared.Step.the-variants.{Main, Catch, Send, Written, Ack as AckStep, Drop, Join, Take}
+use Rattle.script_line.specs.declared.Step.{Step}
+use Rattle.script_line.specs.declared.Step.the-variants.{Main, At}
+use Rattle.script_line.specs.declared.Verb.the-variants.{Catch, Send, Written, Ack as AckStep, Drop, Join, Take}
 use Rattle.script.specs.declared.Reply.{Reply}
 use Rattle.script.specs.declared.Reply.the-variants.{Answered, Empty}
 
@@ -74,13 +75,13 @@ dueIn suspended = 0
 
 abbrev pub stepIn : World → Step → W.Step
 stepIn wd Main = W.main (wd .current + 1)
-stepIn wd (Catch w) = W.catch w (sideAt w wd .view .term) (dueIn (sideAt w wd .view .condition))
-stepIn wd (Send w) = W.send w (replicate 10 0)
-stepIn wd (Written w) = W.written w (sideAt w wd .view .term)
-stepIn wd (AckStep w) = W.ack w
-stepIn wd (Drop w) = W.drop w
-stepIn wd (Join w) = W.join w
-stepIn wd (Take w) = W.take w
+stepIn wd (At Catch w) = W.catch w (sideAt w wd .view .term) (dueIn (sideAt w wd .view .condition))
+stepIn wd (At Send w) = W.send w (replicate 10 0)
+stepIn wd (At Written w) = W.written w (sideAt w wd .view .term)
+stepIn wd (At AckStep w) = W.ack w
+stepIn wd (At Drop w) = W.drop w
+stepIn wd (At Join w) = W.join w
+stepIn wd (At Take w) = W.take w
 
 -- what is printed of a reply of the world: no step of a script is one that is not made
 abbrev pub replyOf : Reply → W.Reply
@@ -93,13 +94,7 @@ replyOf Empty = empty
 -- the window that a step names, and whether it names one
 abbrev pub windowOf : Step → ℕ
 windowOf Main = 0
-windowOf (Catch w) = w
-windowOf (Send w) = w
-windowOf (Written w) = w
-windowOf (AckStep w) = w
-windowOf (Drop w) = w
-windowOf (Join w) = w
-windowOf (Take w) = w
+windowOf (At verb w) = w
 
 abbrev pub noTrack : Track
 noTrack = record { line = record { cells = []; len = 0 }; back = record { cells = []; len = 0 } }

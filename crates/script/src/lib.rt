@@ -20,18 +20,6 @@ pub struct Stage {
     pub tracks: [Track; 16],
 }
 
-// One step of a script. A window is 0 to 99.
-pub enum Step {
-    Main,
-    Catch(u32),
-    Send(u32),
-    Written(u32),
-    Ack(u32),
-    Drop(u32),
-    Join(u32),
-    Take(u32),
-}
-
 // What a step answers: document 01's number, or that a Take or an Ack found its line empty.
 pub enum Reply {
     Answered(u32),

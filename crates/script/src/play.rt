@@ -1,7 +1,6 @@
 // One step of a script: a call of the player or of a window's record, and what it does to the lines.
 use crate::Reply;
 use crate::Stage;
-use crate::Step;
 use crate::Stepped;
 use crate::Track;
 use journal::Index;
@@ -11,6 +10,8 @@ use queue::Queue;
 use record::Record;
 use record::Taken;
 use rules::Term;
+use script_line::Step;
+use script_line::Verb;
 use window::Condition;
 ghost use Prim.Native.Nat.{_+_, _≤_, _<_};
 ghost use mathlib.Core.Path.{_≡_};
@@ -19,7 +20,8 @@ ghost use Rattle.queue.specs.Items.{itemsOf};
 ghost use Rattle.window.specs.View.{conditionOf};
 ghost use Rattle.player.specs.View.{playerOf};
 ghost use Rattle.rules.specs.Rules.{windowAt};
-ghost use Rattle.script.specs.declared.Step.the-variants.{Main, Catch, Send, Written, Ack, Drop, Join, Take};
+ghost use Rattle.script_line.specs.declared.Step.the-variants.{Main, At};
+ghost use Rattle.script_line.specs.declared.Verb.the-variants.{Catch, Send, Written, Ack, Drop, Join, Take};
 ghost use Rattle.script.specs.Stage.{dueIn, windowOf, roomAt};
 ghost use Rattle.script.specs.Promise.{Playable, Steps, Plays};
 ghost use Rattle.script.specs.Stored.{recordAt, trackAt, SameItems, ackPushed, loadedBy, calledBy, settledBy, tookBy};
@@ -106,13 +108,7 @@ fn window_of(step: Step) -> u32
 {
     match step {
         Step::Main => 0,
-        Step::Catch(w) => w,
-        Step::Send(w) => w,
-        Step::Written(w) => w,
-        Step::Ack(w) => w,
-        Step::Drop(w) => w,
-        Step::Join(w) => w,
-        Step::Take(w) => w,
+        Step::At(_, w) => w,
     }
 }
 
@@ -229,7 +225,7 @@ impl Stage {
 
     fn catch(self, journal: &[u32], w: u32) -> Stepped
         requires { ⌜ Playable (now journal) self w ⌝ }
-        ensures { λ r. ⌜ Steps (entriesOf (now (journal .entry))) self (Catch w) r ⌝ }
+        ensures { λ r. ⌜ Steps (entriesOf (now (journal .entry))) self (At Catch w) r ⌝ }
     {
         let player = self.player;
         let term = term_at(player, w);
@@ -239,7 +235,7 @@ impl Stage {
 
     fn written(self, journal: &[u32], w: u32) -> Stepped
         requires { ⌜ Playable (now journal) self w ⌝ }
-        ensures { λ r. ⌜ Steps (entriesOf (now (journal .entry))) self (Written w) r ⌝ }
+        ensures { λ r. ⌜ Steps (entriesOf (now (journal .entry))) self (At Written w) r ⌝ }
     {
         let player = self.player;
         let term = term_at(player, w);
@@ -248,7 +244,7 @@ impl Stage {
 
     fn drop(self, journal: &[u32], w: u32) -> Stepped
         requires { ⌜ Playable (now journal) self w ⌝ }
-        ensures { λ r. ⌜ Steps (entriesOf (now (journal .entry))) self (Drop w) r ⌝ }
+        ensures { λ r. ⌜ Steps (entriesOf (now (journal .entry))) self (At Drop w) r ⌝ }
     {
         let player = self.player;
         self.called(operations::drop_on(player, journal, w))
@@ -257,7 +253,7 @@ impl Stage {
     // Join with the window's last index; answered 0, both ways of its line are emptied.
     fn join(self, journal: &[u32], w: u32) -> Stepped
         requires { ⌜ Playable (now journal) self w ⌝ }
-        ensures { λ r. ⌜ Steps (entriesOf (now (journal .entry))) self (Join w) r ⌝ }
+        ensures { λ r. ⌜ Steps (entriesOf (now (journal .entry))) self (At Join w) r ⌝ }
     {
         let player = self.player;
         let record = self.record_at(w);
@@ -273,7 +269,7 @@ impl Stage {
     // Send, lent an output for a batch of two; answered 0, the batch that it wrote goes on the window's line.
     fn send(self, journal: &[u32], w: u32) -> Stepped
         requires { ⌜ Playable (now journal) self w ⌝ }
-        ensures { λ r. ⌜ Steps (entriesOf (now (journal .entry))) self (Send w) r ⌝ }
+        ensures { λ r. ⌜ Steps (entriesOf (now (journal .entry))) self (At Send w) r ⌝ }
     {
         let player = self.player;
         let track = self.track_at(w);
@@ -291,7 +287,7 @@ impl Stage {
     // Ack with the front ack, which stays on the line if refused.
     fn ack(self, journal: &[u32], w: u32) -> Stepped
         requires { ⌜ Playable (now journal) self w ⌝ }
-        ensures { λ r. ⌜ Steps (entriesOf (now (journal .entry))) self (Ack w) r ⌝ }
+        ensures { λ r. ⌜ Steps (entriesOf (now (journal .entry))) self (At Ack w) r ⌝ }
     {
         let player = self.player;
         if player.count <= w {
@@ -322,7 +318,7 @@ impl Stage {
     // Take of the front entry, which goes off the line; the last of a batch puts an ack on the way back.
     fn take(self, journal: &[u32], w: u32) -> Stepped
         requires { ⌜ Playable (now journal) self w ⌝ }
-        ensures { λ r. ⌜ Steps (entriesOf (now (journal .entry))) self (Take w) r ⌝ }
+        ensures { λ r. ⌜ Steps (entriesOf (now (journal .entry))) self (At Take w) r ⌝ }
     {
         let player = self.player;
         if player.count <= w {
@@ -353,6 +349,22 @@ impl Stage {
 }
 
 impl Stage {
+    // The step of a word at window w.
+    fn at(self, journal: &[u32], verb: Verb, w: u32) -> Stepped
+        requires { ⌜ Playable (now journal) self w ⌝ }
+        ensures { λ r. ⌜ Steps (entriesOf (now (journal .entry))) self (At verb w) r ⌝ }
+    {
+        match verb {
+            Verb::Catch => self.catch(journal, w),
+            Verb::Send => self.send(journal, w),
+            Verb::Written => self.written(journal, w),
+            Verb::Ack => self.ack(journal, w),
+            Verb::Drop => self.drop(journal, w),
+            Verb::Join => self.join(journal, w),
+            Verb::Take => self.take(journal, w),
+        }
+    }
+
     // One step of a script: Answered(1), with the stage as it was, where the journal is out of shape or the stage does not fit.
     pub fn step(self, journal: &[u32], step: Step) -> Stepped
         ensures { λ r. ⌜ Plays (now (journal .entry)) self step r ⌝ }
@@ -371,13 +383,7 @@ impl Stage {
         }
         match step {
             Step::Main => self.main(journal),
-            Step::Catch(w) => self.catch(journal, w),
-            Step::Send(w) => self.send(journal, w),
-            Step::Written(w) => self.written(journal, w),
-            Step::Ack(w) => self.ack(journal, w),
-            Step::Drop(w) => self.drop(journal, w),
-            Step::Join(w) => self.join(journal, w),
-            Step::Take(w) => self.take(journal, w),
+            Step::At(verb, w) => self.at(journal, verb, w),
         }
     }
 }
