@@ -28,7 +28,7 @@ use Rattle.delivery.specs.Reach.{reached-step}
 use Rattle.delivery.specs.Demand3.{opened-reached}
 use Rattle.script_line.specs.declared.Step.{Step}
 use Rattle.script_line.specs.declared.Step.the-variants.{Main, At}
-use Rattle.script_line.specs.declared.Verb.the-variants.{Catch, Send, Written, Ack as AckStep, Drop, Join, Take}
+use Rattle.script_line.specs.declared.Verb.the-variants.{Catch, Send, Written, Ack as AckVerb, Drop, Join, Take}
 use Rattle.script.specs.Stage.{stepIn}
 use Rattle.script.specs.Sends.{batchOf-length}
 
@@ -142,7 +142,7 @@ stepIn-scripted wd Main = refl
 stepIn-scripted wd (At Catch w) = refl
 stepIn-scripted wd (At Send w) = refl
 stepIn-scripted wd (At Written w) = refl
-stepIn-scripted wd (At AckStep w) = refl
+stepIn-scripted wd (At AckVerb w) = refl
 stepIn-scripted wd (At Drop w) = refl
 stepIn-scripted wd (At Join w) = refl
 stepIn-scripted wd (At Take w) = refl

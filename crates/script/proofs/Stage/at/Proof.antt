@@ -1,5 +1,4 @@
 -- Each word's step is the step at that word.
-use mathlib.Core.Path.{subst⁻¹}
 use borrow.Author.Needs.{needs}
 use Rattle.script.proofs.Stage.at.Statement.{statement}
 use Rattle.script.proofs.Stage.at.Tie as tie
@@ -44,7 +43,7 @@ enum-told-7 : tie.Need-enum-told-7
 enum-told-7 c = search needs
 
 take-requires : tie.Need-take-requires
-take-requires c κs = c .before .before .before .pre
+take-requires c κs = c .before .before .before .pre .room
 
 returns : tie.Need-returns
 returns c = rw (c .before .enum-told .given .1) (c .catch .ensures)
@@ -65,7 +64,7 @@ returns-6 : tie.Need-returns-6
 returns-6 c = rw (c .before .enum-told6 .given .1) (c .join .ensures)
 
 returns-7 : tie.Need-returns-7
-returns-7 c = rw (c .before .enum-told7 .given .1) (c .take .ensures)
+returns-7 c = rw (c .before .enum-told7 .given .1) (c .take .ensures _)
 
 pub at-spec : {M : Type 1} → statement M
 at-spec =

@@ -6,8 +6,8 @@ use Rattle.script.specs.Stage.{dueIn}
 use Rattle.script.specs.Worlds.{windowAt-none, windowAt-here}
 use Rattle.player.proofs.Sixteen.{windows-length}
 use borrow.Author.Needs.{needs}
-use Rattle.script.proofs.play.due_at.Statement.{statement}
-use Rattle.script.proofs.play.due_at.Tie as tie
+use Rattle.script.proofs.calls.due_at.Statement.{statement}
+use Rattle.script.proofs.calls.due_at.Tie as tie
 
 returns : tie.Need-returns
 returns c = sym (ap (λ v. dueIn (v .condition)) (windowAt-none (c .before .before .args .player) _ (c .if1 .taken)))

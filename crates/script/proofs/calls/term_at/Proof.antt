@@ -5,8 +5,8 @@ use Rattle.window.specs.View.{viewOf}
 use Rattle.script.specs.Worlds.{windowAt-none, windowAt-here}
 use Rattle.player.proofs.Sixteen.{windows-length}
 use borrow.Author.Needs.{needs}
-use Rattle.script.proofs.play.term_at.Statement.{statement}
-use Rattle.script.proofs.play.term_at.Tie as tie
+use Rattle.script.proofs.calls.term_at.Statement.{statement}
+use Rattle.script.proofs.calls.term_at.Tie as tie
 
 returns : tie.Need-returns
 returns c = sym (ap (λ v. v .term) (windowAt-none (c .before .before .args .player) _ (c .if1 .taken)))
