@@ -1,3 +1,2 @@
--- The step that a line orders, and places in the runner's buffers.
-pub mod Given
+-- Places in the runner's buffers.
 pub mod Places

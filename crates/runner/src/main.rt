@@ -1,10 +1,9 @@
 // The runner: plays the inputs that its arguments name, or standard input where it has no argument, and writes the answers to standard
-// output. What a line says is in `steps`, what a journal text says in `journal_text`, and what a step does in `script`. No contract can
+// output. What a line says is in `script_line`, what a journal text says in `journal_text`, and what a step does in `script`. No contract can
 // speak of what is read or written, so most functions here promise only that they are safe and end.
 mod input;
 mod output;
 mod play;
-mod step;
 
 use libc::STDIN_FILENO;
 use libc::STDOUT_FILENO;

@@ -4,10 +4,9 @@ use crate::input::Run;
 use crate::output::put_answer;
 use crate::output::put_windows;
 use crate::output::refuse;
-use crate::step::Given;
-use crate::step::step_in;
 use journal_text::Reading;
 use script::Stage;
+use script_line::StepLine;
 use script_line::Windows;
 ghost use Prim.Native.Nat.{_≤_};
 ghost use Rattle.runner.specs.Places.{Places, Waiting};
@@ -101,7 +100,7 @@ fn play_steps(
             return;
         }
         at = lf + 1;
-        let Given::Step(step) = step_in(&buf[start..lf]) else {
+        let StepLine::Step(step) = script_line::read_step(&buf[start..lf]) else {
             refuse(out, used);
             return;
         };

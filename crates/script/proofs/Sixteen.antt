@@ -1,4 +1,4 @@
--- A stage that code holds has sixteen records and sixteen tracks.
+-- The lengths of the arrays in what code holds: a stage's sixteen records and sixteen lines, and a line's cells.
 use Prim.Native.Nat.{_≤_}
 use mathlib.Core.Path.{_≡_, sym, _∙_}
 use mathlib.Core.List.{List}
@@ -6,15 +6,25 @@ use lib.ListN.{length, length-map}
 use mir.Val.{Val}
 use denote.Laws.{Is}
 use denote.Struct.Declared.{row}
+use Rattle.script.specs.declared.line.Entries.{Entries}
+use Rattle.script.specs.declared.line.Acks.{Acks}
 use Rattle.script.specs.declared.Stage.{Stage}
 use Rattle.script.specs.Worlds.{Staged}
-use Rattle.script.proofs.Stage as declared
+use Rattle.script.proofs.line.Entries as entries
+use Rattle.script.proofs.line.Acks as acks
+use Rattle.script.proofs.Stage as stage
 
-pub records-length : (s : Stage) (vs : List Val) → Is (row declared.the-type) s vs → length (s .records) ≡ 16
+pub entries-length : (e : Entries) (vs : List Val) → Is (row entries.the-type) e vs → length (e .cells) ≡ 18
+entries-length e vs h = sym (length-map (e .cells) _) ∙ h .1 .1 .0 .1 .0 .1
+
+pub acks-length : (a : Acks) (vs : List Val) → Is (row acks.the-type) a vs → length (a .cells) ≡ 9
+acks-length a vs h = sym (length-map (a .cells) _) ∙ h .1 .1 .0 .1 .0 .1
+
+pub records-length : (s : Stage) (vs : List Val) → Is (row stage.the-type) s vs → length (s .records) ≡ 16
 records-length s vs h = sym (length-map (s .records) _) ∙ h .1 .1 .1 .0 .1 .0 .1
 
-pub tracks-length : (s : Stage) (vs : List Val) → Is (row declared.the-type) s vs → length (s .tracks) ≡ 16
-tracks-length s vs h = sym (length-map (s .tracks) _) ∙ h .1 .1 .1 .1 .0 .1 .0 .1
+pub lines-length : (s : Stage) (vs : List Val) → Is (row stage.the-type) s vs → length (s .lines) ≡ 16
+lines-length s vs h = sym (length-map (s .lines) _) ∙ h .1 .1 .1 .1 .0 .1 .0 .1
 
-pub staged : (s : Stage) (vs : List Val) → Is (row declared.the-type) s vs → s .player .count ≤ 16 → Staged s
-staged s vs h few = record { few = few; records = records-length s vs h; tracks = tracks-length s vs h }
+pub staged : (s : Stage) (vs : List Val) → Is (row stage.the-type) s vs → s .player .count ≤ 16 → Staged s
+staged s vs h few = record { few = few; records = records-length s vs h; lines = lines-length s vs h }

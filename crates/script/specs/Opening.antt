@@ -1,6 +1,6 @@
 -- The beginning of a run: what opening a stage promises, and its laws.
 use Prim.Native.Nat.{ℕ, zero, suc, _≤_, _<_}
-use mathlib.Core.Path.{_≡_, refl, sym, ap, ap₂, _∙_}
+use mathlib.Core.Path.{_≡_, refl, sym, ap, _∙_}
 use mathlib.Core.List.{List, [], _∷_, map}
 use mathlib.Core.Bool.{Bool, true, false, not, cond, _&&_, true≢false}
 use native.Mathlib.Omega.{arith}
@@ -10,8 +10,6 @@ use lib.Dec.{eqb, leb}
 use Rattle.journal.specs.declared.Entry.{Entry}
 use Rattle.lists.specs.Cases.{and-left}
 use Rattle.journal.specs.Entry.{inShape, entriesOf}
-use Rattle.queue.specs.Items.{freshQueue}
-use Rattle.queue.specs.Laws.{itemsOf-fresh}
 use Rattle.record.specs.Record.{newRecord}
 use Rattle.player.specs.declared.Player.{Player}
 use Rattle.player.specs.declared.Played.{Played}
@@ -25,15 +23,12 @@ use Rattle.window.specs.Promise.{numberOf}
 use Rattle.player.specs.Promise.{Meets}
 use Rattle.delivery.specs.World.{World, newSide, opened}
 use Rattle.delivery.specs.Statement.{firstStart}
-use Rattle.script.specs.declared.Track.{Track}
 use Rattle.script.specs.declared.Stage.{Stage}
 use Rattle.script.specs.declared.Opened.{Opened}
-use Rattle.script.specs.Stage.{sideOf, sidesOf, worldOf}
+use Rattle.script.specs.Cells.{front}
+use Rattle.script.specs.Line.{freshLine, sentIn, acksIn}
+use Rattle.script.specs.Stage.{sidesOf, worldOf}
 use Rattle.journal.specs.EntryLaws.{numbersOf-entriesOf}
-
--- empty lines
-abbrev pub freshTrack : Track
-freshTrack = record { line = freshQueue; back = freshQueue }
 
 -- a player, and a world, with no windows
 abbrev pub noPlayer : PlayerView
@@ -53,12 +48,11 @@ pub record Opens (ns : List ℕ) (count : ℕ) (r : Opened) : Type 0 where
 -- sidesOf
 
 -- new records and empty lines
-sidesOf-new : (j : List Entry) (n : ℕ) (vs : List WindowView) → length vs ≤ n → sidesOf j vs (replicate n newRecord) (replicate n freshTrack) ≡ map newSide vs
-unfolding sidesOf
-sidesOf-new j n [] h = refl
-sidesOf-new j zero (v ∷ vs) h = absurd (omega arith)
-sidesOf-new j (suc n) (v ∷ vs) h =
-    ap₂ _∷_ (ap (λ xs. sideOf j v newRecord xs xs) itemsOf-fresh) (sidesOf-new j n vs (omega arith))
+sidesOf-new : (n : ℕ) (vs : List WindowView) → length vs ≤ n → sidesOf vs (replicate n newRecord) (replicate n freshLine) ≡ map newSide vs
+unfolding sidesOf sentIn acksIn front
+sidesOf-new n [] h = refl
+sidesOf-new zero (v ∷ vs) h = absurd (omega arith)
+sidesOf-new (suc n) (v ∷ vs) h = ap (λ ps. newSide v ∷ ps) (sidesOf-new n vs (omega arith))
 
 -- ------------------------------------------------------------------------
 -- startRule
@@ -99,12 +93,12 @@ reports-count n h = sym (ap length (replicate-take n 16 0 h) ∙ length-replicat
 
 -- new records and empty lines round a player
 abbrev pub aroundPlayer : Player → Stage
-aroundPlayer p = record { player = p; records = replicate 16 newRecord; tracks = replicate 16 freshTrack }
+aroundPlayer p = record { player = p; records = replicate 16 newRecord; lines = replicate 16 freshLine }
 
 shut-world : (j : List Entry) (p : Player) → playerOf p ≡ noPlayer → worldOf j (aroundPlayer p) ≡ noWorld j
 unfolding worldOf sidesOf
 shut-world j p e =
-    ap (λ q. record { journal = j; limit = q .limit; current = q .current; sides = sidesOf j (q .windows) (replicate 16 newRecord) (replicate 16 freshTrack) })
+    ap (λ q. record { journal = j; limit = q .limit; current = q .current; sides = sidesOf (q .windows) (replicate 16 newRecord) (replicate 16 freshLine) })
     e
 
 module _ (ns : List ℕ) (count : ℕ) where
@@ -130,10 +124,10 @@ module _ (ns : List ℕ) (count : ℕ) where
             let d = startRule-done ns count 2 reports (playerOf p) (sym (k .answer) ∙ zero) in
             let f = startRule-done ns count 2 (replicate count 0) before (sym (same before) ∙ zero) in
             let ns′ = numbersOf-entriesOf ns (eqb-true _ _ (and-left _ _ (d .given .journal))) in
-            ap (λ q. record { journal = entriesOf ns; limit = q .limit; current = q .current; sides = sidesOf (entriesOf ns) (q .windows) (replicate 16 newRecord) (replicate 16 freshTrack) })
+            ap (λ q. record { journal = entriesOf ns; limit = q .limit; current = q .current; sides = sidesOf (q .windows) (replicate 16 newRecord) (replicate 16 freshLine) })
             (k .next ∙ d .next ∙ ap (startNext 2) zeros)
             ∙ ap (λ ps. record { journal = entriesOf ns; limit = 2; current = least (replicate count 0); sides = ps })
-            (sidesOf-new (entriesOf ns) 16 (map started (replicate count 0)) (simp (length-map, length-replicate) h))
+            (sidesOf-new 16 (map started (replicate count 0)) (simp (length-map, length-replicate) h))
             ∙ ap (λ q. record { journal = entriesOf ns; limit = q .limit; current = q .current; sides = map newSide (q .windows) })
             (sym (ap (λ x. startRule x count 2 (replicate count 0) before .next) ns′ ∙ f .next));
         shut = λ z.

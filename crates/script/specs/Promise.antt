@@ -1,29 +1,30 @@
 -- What the stage's step promises.
-use Prim.Native.Nat.{ℕ, _≤_, _<_}
+use Prim.Native.Nat.{ℕ, _≤_}
 use mathlib.Core.Path.{_≡_}
 use mathlib.Core.List.{List}
 use mathlib.Core.Bool.{Bool, true, false, _&&_}
-use lib.ListN.{length, getD}
 use Rattle.journal.specs.declared.Entry.{Entry}
 use Rattle.journal.specs.Entry.{inShape, entriesOf}
-use Rattle.queue.specs.Items.{itemsOf}
 use Rattle.delivery.specs.World as W
+use Rattle.script_line.specs.declared.Step.{Step}
 use Rattle.script.specs.declared.Stage.{Stage}
-use Rattle.script.specs.declared.Step.{Step}
 use Rattle.script.specs.declared.Reply.the-variants.{Answered}
 use Rattle.script.specs.declared.Stepped.{Stepped}
-use Rattle.script.specs.Stage.{worldOf, forgotten, stepIn, replyOf, noTrack, fits}
+use Rattle.script.specs.Stage.{worldOf, forgotten, stepIn, replyOf, lineAt, fits}
 
 -- the journal is in shape, and the stage fits
 abbrev pub playable : List ℕ → Stage → Step → Bool
 playable ns before s = inShape ns && fits before s
 
 -- the same as facts, of window w
+pub record HasRoom (s : Stage) (w : ℕ) : Type 0 where
+  pub few : s .player .count ≤ 16
+  pub entries : lineAt w s .entries .len ≤ 16
+  pub acks : lineAt w s .acks .len ≤ 8
+
 pub record Playable (ns : List ℕ) (s : Stage) (w : ℕ) : Type 0 where
   pub journal : inShape ns ≡ true
-  pub few : s .player .count ≤ 16
-  pub line : w < s .player .count → length (itemsOf (getD (s .tracks) w noTrack .line)) ≤ 126
-  pub back : w < s .player .count → length (itemsOf (getD (s .tracks) w noTrack .back)) ≤ 127
+  pub room : HasRoom s w
 
 -- the reply and the next stage are those of the world's step
 pub record Steps (j : List Entry) (before : Stage) (s : Step) (r : Stepped) : Type 0 where

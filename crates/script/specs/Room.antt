@@ -26,8 +26,9 @@ use Rattle.delivery.specs.Effects.{Worked, caught, sent, written, took, acked, 
 use Rattle.delivery.specs.SteppedAll.{step-facts}
 use Rattle.delivery.specs.Reach.{reached-step}
 use Rattle.delivery.specs.Demand3.{opened-reached}
-use Rattle.script.specs.declared.Step.{Step}
-use Rattle.script.specs.declared.Step.the-variants.{Main, Catch, Send, Written, Ack as AckStep, Drop, Join, Take}
+use Rattle.script_line.specs.declared.Step.{Step}
+use Rattle.script_line.specs.declared.Step.the-variants.{Main, At}
+use Rattle.script_line.specs.declared.Verb.the-variants.{Catch, Send, Written, Ack as AckVerb, Drop, Join, Take}
 use Rattle.script.specs.Stage.{stepIn}
 use Rattle.script.specs.Sends.{batchOf-length}
 
@@ -138,13 +139,13 @@ scripted (W.append e) = false
 
 pub stepIn-scripted : (wd : World) (s : Step) → scripted (stepIn wd s) ≡ true
 stepIn-scripted wd Main = refl
-stepIn-scripted wd (Catch w) = refl
-stepIn-scripted wd (Send w) = refl
-stepIn-scripted wd (Written w) = refl
-stepIn-scripted wd (AckStep w) = refl
-stepIn-scripted wd (Drop w) = refl
-stepIn-scripted wd (Join w) = refl
-stepIn-scripted wd (Take w) = refl
+stepIn-scripted wd (At Catch w) = refl
+stepIn-scripted wd (At Send w) = refl
+stepIn-scripted wd (At Written w) = refl
+stepIn-scripted wd (At AckVerb w) = refl
+stepIn-scripted wd (At Drop w) = refl
+stepIn-scripted wd (At Join w) = refl
+stepIn-scripted wd (At Take w) = refl
 
 -- a side replaced
 placed-roomy : (wd : World) (v : ℕ) (p : Side) → v < length (wd .sides) → ((w : ℕ) → w < length (wd .sides) → RoomySide (sideAt w wd)) → RoomySide p →

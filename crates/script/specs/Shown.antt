@@ -3,15 +3,14 @@ use Prim.Native.Nat.{ℕ, _+_, _≤_, _<_}
 use mathlib.Core.Path.{_≡_, refl, sym, ap, ap₂, subst⁻¹, _∙_}
 use mathlib.Core.Logic.{⊎-elim}
 use mathlib.Core.List.{List, [], _∷_, _++_, map}
-use mathlib.Core.Bool.{Bool, true, false, cond, _&&_, _||_}
+use mathlib.Core.Bool.{Bool, true, false, cond}
 use native.Mathlib.Omega.{arith}
-use borrow.Author.Tests.{le-leb, lt-leb}
-use lib.ListN.{length, length-map, List·getD-map}
-use lib.Dec.{eqb, ltb, leb}
+use borrow.Author.Tests.{le-leb}
+use lib.ListN.{length, length-map, List·getD-map, List·getD-eq-default}
+use lib.Dec.{eqb, ltb}
 use Rattle.journal.specs.declared.Entry.{Entry}
 use Rattle.lists.specs.Cases.{le-or-lt, and-intro}
 use Rattle.journal.specs.Entry.{inShape, entriesOf, fiveOf}
-use Rattle.queue.specs.Items.{itemsOf}
 use Rattle.record.specs.Record.{takeNumbers}
 use Rattle.rules.specs.View.{PlayerView}
 use Rattle.rules.specs.Offers.{shaped}
@@ -20,12 +19,14 @@ use Rattle.delivery.specs.World.{Sent, Ack, Side, World, noSide, sideAt, number
 use Rattle.delivery.specs.World as W
 use Rattle.delivery.specs.Worlds.{windows-in}
 use Rattle.script.specs.declared.Stage.{Stage}
-use Rattle.script.specs.declared.Step.{Step}
-use Rattle.script.specs.declared.Step.the-variants.{Main, Catch, Send, Written, Ack as AckStep, Drop, Join, Take}
+use Rattle.script_line.specs.declared.Step.{Step}
+use Rattle.script_line.specs.declared.Step.the-variants.{Main, At}
+use Rattle.script_line.specs.declared.Verb.the-variants.{Catch, Send, Written, Ack as AckVerb, Drop, Join, Take}
 use Rattle.script.specs.declared.Stepped.{Stepped}
-use Rattle.script.specs.Stage.{worldOf, forget, forgotten, dueIn, stepIn, replyOf, windowOf, fits}
+use Rattle.script.specs.Stage.{worldOf, forget, forgotten, dueIn, stepIn, replyOf, windowOf, lineAt, fits}
 use Rattle.script.specs.Promise.{Steps, Plays}
-use Rattle.script.specs.Stored.{trackAt}
+use Rattle.script.specs.declared.line.Line.{Line}
+use Rattle.script.specs.Line.{sentOf, ackOf, sentIn, acksIn, sentIn-length, acksIn-length}
 use Rattle.script.specs.Sides.{forgotten-player, forgotten-side}
 use Rattle.script.specs.Worlds.{worldOf-count, worldOf-side}
 use Rattle.script.specs.Room.{Roomy, roomy-line}
@@ -128,10 +129,10 @@ line-alike r wd w a b same =
 pub step-alike : (wd : World) (s : Step) → Alike (W.step (stepIn (forgotten wd) s) (forgotten wd)) (W.step (stepIn wd s) wd)
 unfolding W.step forgotten
 step-alike wd Main = alike-called (λ p. mainRule (numbersIn wd) (wd .current + 1) p) wd
-step-alike wd (Catch w) =
-    subst⁻¹ (λ x. Alike (W.step (W.catch w (x .view .term) (dueIn (x .view .condition))) (forgotten wd)) (W.step (stepIn wd (Catch w)) wd)) (forgotten-at w wd)
+step-alike wd (At Catch w) =
+    subst⁻¹ (λ x. Alike (W.step (W.catch w (x .view .term) (dueIn (x .view .condition))) (forgotten wd)) (W.step (stepIn wd (At Catch w)) wd)) (forgotten-at w wd)
     (alike-called (λ p. catchRule (numbersIn wd) w (sideAt w wd .view .term) (dueIn (sideAt w wd .view .condition)) p) wd)
-step-alike wd (Send w) =
+step-alike wd (At Send w) =
     alike-then (λ p. sendRule (numbersIn wd) w 10 p) (launch w (forgotten wd)) (launch w wd) wd
     (λ x.
     side-alike w
@@ -139,19 +140,19 @@ step-alike wd (Send w) =
     (λ p. withLines (p .line ++ onLine (wd .journal) (sideAt w wd .view .term) (batchAt w (playerIn wd))) (p .back) p) x
     (ap₂ (λ t is. forget (withLines (sideAt w x .line ++ onLine (wd .journal) t is) (sideAt w x .back) (sideAt w x)))
     (ap (λ p. p .view .term) (forgotten-at w wd)) (ap (batchAt w) (forgotten-in wd))))
-step-alike wd (Written w) =
-    subst⁻¹ (λ x. Alike (W.step (W.written w (x .view .term)) (forgotten wd)) (W.step (stepIn wd (Written w)) wd)) (forgotten-at w wd)
+step-alike wd (At Written w) =
+    subst⁻¹ (λ x. Alike (W.step (W.written w (x .view .term)) (forgotten wd)) (W.step (stepIn wd (At Written w)) wd)) (forgotten-at w wd)
     (alike-called (λ p. writtenRule (numbersIn wd) w (sideAt w wd .view .term) p) wd)
-step-alike wd (AckStep w) =
+step-alike wd (At AckVerb w) =
     line-alike (answered 2) wd w _ _
     (subst⁻¹ (λ x. Alike (ackAtLine w (x .back) (forgotten wd)) (ackAtLine w (sideAt w wd .back) wd)) (forgotten-at w wd) (ack-alike w wd (sideAt w wd .back)))
-step-alike wd (Drop w) = alike-called (λ p. dropRule (numbersIn wd) w p) wd
-step-alike wd (Join w) =
+step-alike wd (At Drop w) = alike-called (λ p. dropRule (numbersIn wd) w p) wd
+step-alike wd (At Join w) =
     subst⁻¹ (λ x. Alike (calledThen (joinRule (numbersIn wd) w (x .record′ .last .0) (playerIn (forgotten wd))) (λ y. withSide w (cleared (sideAt w y)) y) (forgotten wd))
-    (W.step (stepIn wd (Join w)) wd)) (forgotten-at w wd)
+    (W.step (stepIn wd (At Join w)) wd)) (forgotten-at w wd)
     (alike-then (λ p. joinRule (numbersIn wd) w (sideAt w wd .record′ .last .0) p) (λ y. withSide w (cleared (sideAt w y)) y)
     (λ y. withSide w (cleared (sideAt w y)) y) wd (λ x. side-alike w cleared cleared x refl))
-step-alike wd (Take w) =
+step-alike wd (At Take w) =
     line-alike (answered 2) wd w _ _
     (subst⁻¹ (λ x. Alike (takeAtLine w (x .line) (forgotten wd)) (takeAtLine w (sideAt w wd .line) wd)) (forgotten-at w wd) (take-alike w wd (sideAt w wd .line)))
 
@@ -171,34 +172,40 @@ module _ (j : List Entry) (s : Stage) (wd : World) (shows : worldOf j s ≡ forg
   shown-count = sym (worldOf-count j s) ∙ ap (λ x. length (x .sides)) shows ∙ forgotten-count wd
 
   -- where the world has room, every step fits
-  module _ (r : Roomy wd) (records : length (s .records) ≡ 16) (tracks : length (s .tracks) ≡ 16) where
+  module _ (r : Roomy wd) (records : length (s .records) ≡ 16) (lines : length (s .lines) ≡ 16) where
     shown-few : s .player .count ≤ 16
     shown-few = omega (arith, shown-count, shaped (numbersIn wd) (playerIn wd) (r .reached .inShape) .most, windows-in wd)
 
-    shown-lines : (w : ℕ) → w < s .player .count → (length (itemsOf (trackAt w s .line)) ≤ 16) × (length (itemsOf (trackAt w s .back)) ≤ 8)
-    shown-lines w l =
-        let e = sym (worldOf-side j s (record { few = shown-few; records = records; tracks = tracks }) w l) ∙ ap (sideAt w) shows ∙ forgotten-at w wd in
-        let room = roomy-line (sideAt w wd) (r .each w (omega (arith, shown-count))) in (
-          omega (arith, sym (length-map (itemsOf (trackAt w s .line)) _) ∙ ap (λ p. length (p .line)) e, room .0),
-          omega (arith, sym (length-map (itemsOf (trackAt w s .back)) _) ∙ ap (λ p. length (p .back)) e, room .1),
+    shown-room : (w : ℕ) → (length (sideAt w wd .line) ≤ 16) × (length (sideAt w wd .back) ≤ 8)
+    shown-room w = ⊎-elim above below (le-or-lt (length (wd .sides)) w)
+      where
+        above : length (wd .sides) ≤ w → (length (sideAt w wd .line) ≤ 16) × (length (sideAt w wd .back) ≤ 8)
+        above l = rw (List·getD-eq-default (wd .sides) noSide {n = w} l) (omega arith, omega arith)
+
+        below : w < length (wd .sides) → (length (sideAt w wd .line) ≤ 16) × (length (sideAt w wd .back) ≤ 8)
+        below l = roomy-line (sideAt w wd) (r .each w l)
+
+    -- the line of a window is as long as its side says
+    shown-lines : (w : ℕ) → (lineAt w s .entries .len ≡ length (sideAt w wd .line)) × (lineAt w s .acks .len ≡ length (sideAt w wd .back))
+    shown-lines w =
+        let l : Line = lineAt w s in
+        let same = sym (worldOf-side j s (record { few = shown-few; records = records; lines = lines }) w) ∙ ap (sideAt w) shows ∙ forgotten-at w wd in (
+          sym (sentIn-length (l .entries)) ∙ sym (length-map (sentIn (l .entries)) sentOf) ∙ ap (λ p. length (p .line)) same,
+          sym (acksIn-length (l .acks)) ∙ sym (length-map (acksIn (l .acks)) ackOf) ∙ ap (λ p. length (p .back)) same,
         )
 
     pub shown-fits : (st : Step) → fits s st ≡ true
-    shown-fits st = and-intro (le-leb _ 16 shown-few) (⊎-elim above below (le-or-lt (s .player .count) (windowOf st)))
-      where
-        above : s .player .count ≤ windowOf st →
-            (leb (s .player .count) (windowOf st) || (leb (length (itemsOf (trackAt (windowOf st) s .line))) 126 && leb (length (itemsOf (trackAt (windowOf st) s .back))) 127)) ≡ true
-        above h = rw (le-leb _ _ h)
-
-        below : windowOf st < s .player .count →
-            (leb (s .player .count) (windowOf st) || (leb (length (itemsOf (trackAt (windowOf st) s .line))) 126 && leb (length (itemsOf (trackAt (windowOf st) s .back))) 127)) ≡ true
-        below h =
-            let n = shown-lines (windowOf st) h in
-            rw (lt-leb _ _ h, le-leb (length (itemsOf (trackAt (windowOf st) s .line))) 126 (omega arith), le-leb (length (itemsOf (trackAt (windowOf st) s .back))) 127 (omega arith))
+    shown-fits st =
+        let w : ℕ = windowOf st in
+        let sizes = shown-lines w in
+        let room = shown-room w in
+        and-intro (le-leb (s .player .count) 16 shown-few)
+        (and-intro (le-leb (lineAt w s .entries .len) 16 (omega (arith, sizes .0, room .0)))
+        (le-leb (lineAt w s .acks .len) 8 (omega (arith, sizes .1, room .1))))
 
 -- so a stage that shows a world with room plays every step as that world does
 pub shown-plays : (ns : List ℕ) (s : Stage) (wd : World) (st : Step) (r : Stepped) → inShape ns ≡ true → worldOf (entriesOf ns) s ≡ forgotten wd → Roomy wd →
-    length (s .records) ≡ 16 → length (s .tracks) ≡ 16 → Plays ns s st r →
+    length (s .records) ≡ 16 → length (s .lines) ≡ 16 → Plays ns s st r →
     (replyOf (r .reply) ≡ W.step (stepIn wd st) wd .reply) × (worldOf (entriesOf ns) (r .stage) ≡ forgotten (W.step (stepIn wd st) wd .world))
-shown-plays ns s wd st r e shows roomy records tracks k =
-    shown-step (entriesOf ns) s wd shows st r (k .played (and-intro e (shown-fits (entriesOf ns) s wd shows roomy records tracks st)))
+shown-plays ns s wd st r e shows roomy records lines k =
+    shown-step (entriesOf ns) s wd shows st r (k .played (and-intro e (shown-fits (entriesOf ns) s wd shows roomy records lines st)))

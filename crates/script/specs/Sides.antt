@@ -1,84 +1,69 @@
--- Laws of the sides that a stage shows, of a world without its history, and of the journal's numbers.
+-- Laws of the sides that a stage shows, and of a world without its history.
 use Prim.Native.Nat.{ℕ, zero, suc, _≤_, _<_}
-use mathlib.Core.Path.{_≡_, refl, ap, ap₂}
+use mathlib.Core.Path.{_≡_, refl, ap}
 use mathlib.Core.List.{List, [], _∷_, map}
 use native.Mathlib.Omega.{arith}
 use lib.ListN.{length, getD, set}
-use Rattle.journal.specs.declared.Entry.{Entry}
-use Rattle.queue.specs.Items.{itemsOf}
 use Rattle.record.specs.declared.Record.{Record}
 use Rattle.record.specs.Record.{newRecord}
-use Rattle.rules.specs.declared.Term.{Term}
 use Rattle.rules.specs.View.{WindowView, PlayerView, noWindow}
 use Rattle.delivery.specs.World.{Side, World, noSide, withView, withViews, withPlayer, withSide}
-use Rattle.script.specs.declared.Track.{Track}
-use Rattle.script.specs.Stage.{noTrack, sentOf, ackOf, sideOf, sidesOf, forget, forgotten}
+use Rattle.script.specs.declared.line.Line.{Line}
+use Rattle.script.specs.Line.{freshLine}
+use Rattle.script.specs.Stage.{sideOf, sidesOf, forget, forgotten}
 
 -- ------------------------------------------------------------------------
 -- sidesOf
 
--- the terms of some windows
-abbrev pub termsOf : List WindowView → List Term
-termsOf vs = map (λ v. v .term) vs
-
-pub sidesOf-length : (j : List Entry) (vs : List WindowView) (rs : List Record) (ts : List Track) → length (sidesOf j vs rs ts) ≡ length vs
+pub sidesOf-length : (vs : List WindowView) (rs : List Record) (ls : List Line) → length (sidesOf vs rs ls) ≡ length vs
 unfolding sidesOf
-sidesOf-length j [] rs ts = refl
-sidesOf-length j (v ∷ vs) [] ts = ap suc (sidesOf-length j vs [] ts)
-sidesOf-length j (v ∷ vs) (r ∷ rs) [] = ap suc (sidesOf-length j vs rs [])
-sidesOf-length j (v ∷ vs) (r ∷ rs) (t ∷ ts) = ap suc (sidesOf-length j vs rs ts)
+sidesOf-length [] rs ls = refl
+sidesOf-length (v ∷ vs) [] ls = ap suc (sidesOf-length vs [] ls)
+sidesOf-length (v ∷ vs) (r ∷ rs) [] = ap suc (sidesOf-length vs rs [])
+sidesOf-length (v ∷ vs) (r ∷ rs) (l ∷ ls) = ap suc (sidesOf-length vs rs ls)
 
-pub sidesOf-forget : (j : List Entry) (vs : List WindowView) (rs : List Record) (ts : List Track) → map forget (sidesOf j vs rs ts) ≡ sidesOf j vs rs ts
+pub sidesOf-forget : (vs : List WindowView) (rs : List Record) (ls : List Line) → map forget (sidesOf vs rs ls) ≡ sidesOf vs rs ls
 unfolding sidesOf
-sidesOf-forget j [] rs ts = refl
-sidesOf-forget j (v ∷ vs) [] ts = ap (λ l. noSide ∷ l) (sidesOf-forget j vs [] ts)
-sidesOf-forget j (v ∷ vs) (r ∷ rs) [] = ap (λ l. noSide ∷ l) (sidesOf-forget j vs rs [])
-sidesOf-forget j (v ∷ vs) (r ∷ rs) (t ∷ ts) = ap (λ l. sideOf j v r (itemsOf (t .line)) (itemsOf (t .back)) ∷ l) (sidesOf-forget j vs rs ts)
+sidesOf-forget [] rs ls = refl
+sidesOf-forget (v ∷ vs) [] ls = ap (λ ps. noSide ∷ ps) (sidesOf-forget vs [] ls)
+sidesOf-forget (v ∷ vs) (r ∷ rs) [] = ap (λ ps. noSide ∷ ps) (sidesOf-forget vs rs [])
+sidesOf-forget (v ∷ vs) (r ∷ rs) (l ∷ ls) = ap (λ ps. sideOf v r l ∷ ps) (sidesOf-forget vs rs ls)
 
--- where there are records and tracks for all windows: the views, window w's side, and a side replaced
-pub sidesOf-views : (j : List Entry) (vs : List WindowView) (rs : List Record) (ts : List Track) → length vs ≤ length rs → length vs ≤ length ts →
-    map (λ p. p .view) (sidesOf j vs rs ts) ≡ vs
+-- where there are records and lines for all windows: the views, window w's side, a side replaced, and all views replaced
+pub sidesOf-views : (vs : List WindowView) (rs : List Record) (ls : List Line) → length vs ≤ length rs → length vs ≤ length ls →
+    map (λ p. p .view) (sidesOf vs rs ls) ≡ vs
 unfolding sidesOf
-sidesOf-views j [] rs ts a b = refl
-sidesOf-views j (v ∷ vs) [] ts a b = absurd (omega arith)
-sidesOf-views j (v ∷ vs) (r ∷ rs) [] a b = absurd (omega arith)
-sidesOf-views j (v ∷ vs) (r ∷ rs) (t ∷ ts) a b = ap (λ l. v ∷ l) (sidesOf-views j vs rs ts (omega arith) (omega arith))
+sidesOf-views [] rs ls a b = refl
+sidesOf-views (v ∷ vs) [] ls a b = absurd (omega arith)
+sidesOf-views (v ∷ vs) (r ∷ rs) [] a b = absurd (omega arith)
+sidesOf-views (v ∷ vs) (r ∷ rs) (l ∷ ls) a b = ap (λ us. v ∷ us) (sidesOf-views vs rs ls (omega arith) (omega arith))
 
-pub sidesOf-at : (j : List Entry) (vs : List WindowView) (rs : List Record) (ts : List Track) (w : ℕ) → w < length vs → length vs ≤ length rs → length vs ≤ length ts →
-    getD (sidesOf j vs rs ts) w noSide
-    ≡ sideOf j (getD vs w noWindow) (getD rs w newRecord) (itemsOf (getD ts w noTrack .line)) (itemsOf (getD ts w noTrack .back))
+pub sidesOf-at : (vs : List WindowView) (rs : List Record) (ls : List Line) (w : ℕ) → w < length vs → length vs ≤ length rs → length vs ≤ length ls →
+    getD (sidesOf vs rs ls) w noSide ≡ sideOf (getD vs w noWindow) (getD rs w newRecord) (getD ls w freshLine)
 unfolding sidesOf
-sidesOf-at j [] rs ts w h a b = absurd (omega arith)
-sidesOf-at j (v ∷ vs) [] ts w h a b = absurd (omega arith)
-sidesOf-at j (v ∷ vs) (r ∷ rs) [] w h a b = absurd (omega arith)
-sidesOf-at j (v ∷ vs) (r ∷ rs) (t ∷ ts) zero h a b = refl
-sidesOf-at j (v ∷ vs) (r ∷ rs) (t ∷ ts) (suc w) h a b = sidesOf-at j vs rs ts w (omega arith) (omega arith) (omega arith)
+sidesOf-at [] rs ls w h a b = absurd (omega arith)
+sidesOf-at (v ∷ vs) [] ls w h a b = absurd (omega arith)
+sidesOf-at (v ∷ vs) (r ∷ rs) [] w h a b = absurd (omega arith)
+sidesOf-at (v ∷ vs) (r ∷ rs) (l ∷ ls) zero h a b = refl
+sidesOf-at (v ∷ vs) (r ∷ rs) (l ∷ ls) (suc w) h a b = sidesOf-at vs rs ls w (omega arith) (omega arith) (omega arith)
 
-pub sidesOf-set : (j : List Entry) (vs : List WindowView) (rs : List Record) (ts : List Track) (w : ℕ) (v : WindowView) (r : Record) (t : Track) →
-    length vs ≤ length rs → length vs ≤ length ts →
-    sidesOf j (set vs w v) (set rs w r) (set ts w t) ≡ set (sidesOf j vs rs ts) w (sideOf j v r (itemsOf (t .line)) (itemsOf (t .back)))
+pub sidesOf-set : (vs : List WindowView) (rs : List Record) (ls : List Line) (w : ℕ) (v : WindowView) (r : Record) (l : Line) →
+    length vs ≤ length rs → length vs ≤ length ls → sidesOf (set vs w v) (set rs w r) (set ls w l) ≡ set (sidesOf vs rs ls) w (sideOf v r l)
 unfolding sidesOf
-sidesOf-set j [] rs ts w v r t a b = refl
-sidesOf-set j (u ∷ vs) [] ts w v r t a b = absurd (omega arith)
-sidesOf-set j (u ∷ vs) (x ∷ rs) [] w v r t a b = absurd (omega arith)
-sidesOf-set j (u ∷ vs) (x ∷ rs) (y ∷ ts) zero v r t a b = refl
-sidesOf-set j (u ∷ vs) (x ∷ rs) (y ∷ ts) (suc w) v r t a b =
-    ap (λ l. sideOf j u x (itemsOf (y .line)) (itemsOf (y .back)) ∷ l) (sidesOf-set j vs rs ts w v r t (omega arith) (omega arith))
+sidesOf-set [] rs ls w v r l a b = refl
+sidesOf-set (u ∷ vs) [] ls w v r l a b = absurd (omega arith)
+sidesOf-set (u ∷ vs) (x ∷ rs) [] w v r l a b = absurd (omega arith)
+sidesOf-set (u ∷ vs) (x ∷ rs) (y ∷ ls) zero v r l a b = refl
+sidesOf-set (u ∷ vs) (x ∷ rs) (y ∷ ls) (suc w) v r l a b = ap (λ ps. sideOf u x y ∷ ps) (sidesOf-set vs rs ls w v r l (omega arith) (omega arith))
 
--- other views with the same terms
-pub sidesOf-with : (j : List Entry) (us vs : List WindowView) (rs : List Record) (ts : List Track) → termsOf us ≡ termsOf vs →
-    length vs ≤ length rs → length vs ≤ length ts → sidesOf j us rs ts ≡ withViews us (sidesOf j vs rs ts)
+pub sidesOf-with : (us vs : List WindowView) (rs : List Record) (ls : List Line) → length us ≡ length vs → length vs ≤ length rs → length vs ≤ length ls →
+    sidesOf us rs ls ≡ withViews us (sidesOf vs rs ls)
 unfolding sidesOf withViews
-sidesOf-with j [] vs rs ts e a b = refl
-sidesOf-with j (u ∷ us) [] rs ts e a b = let z : _≡_ {A = ℕ} 1 0 = ap (λ l. elim l [ [] ↦ 0 | x ∷ xs ↦ 1 ]) e in absurd (omega arith)
-sidesOf-with j (u ∷ us) (v ∷ vs) [] ts e a b = absurd (omega arith)
-sidesOf-with j (u ∷ us) (v ∷ vs) (r ∷ rs) [] e a b = absurd (omega arith)
-sidesOf-with j (u ∷ us) (v ∷ vs) (r ∷ rs) (t ∷ ts) e a b =
-    let h : u .term ≡ v .term = cc in
-    let rest : termsOf us ≡ termsOf vs = cc in
-    ap₂ _∷_
-    (ap (λ x. record { view = u; record′ = r; line = map (sentOf j x) (itemsOf (t .line)); back = map (ackOf x) (itemsOf (t .back)); taken = [] }) h)
-    (sidesOf-with j us vs rs ts rest (omega arith) (omega arith))
+sidesOf-with [] vs rs ls e a b = refl
+sidesOf-with (u ∷ us) [] rs ls e a b = absurd (omega arith)
+sidesOf-with (u ∷ us) (v ∷ vs) [] ls e a b = absurd (omega arith)
+sidesOf-with (u ∷ us) (v ∷ vs) (r ∷ rs) [] e a b = absurd (omega arith)
+sidesOf-with (u ∷ us) (v ∷ vs) (r ∷ rs) (l ∷ ls) e a b = ap (λ ps. sideOf u r l ∷ ps) (sidesOf-with us vs rs ls (omega arith) (omega arith) (omega arith))
 
 -- ------------------------------------------------------------------------
 -- forgotten

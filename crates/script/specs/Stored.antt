@@ -1,64 +1,40 @@
--- What the private functions of the stage promise.
-use Prim.Native.Nat.{ℕ, _+_, _*_, _/_, _%_}
-use mathlib.Core.Path.{_≡_}
-use mathlib.Core.List.{List}
+-- What the private functions of the stage promise: a stage of which a part is replaced.
+use Prim.Native.Nat.{ℕ}
 use mathlib.Core.Bool.{cond}
-use lib.ListN.{getD, set}
+use lib.ListN.{set}
 use lib.Dec.{ltb, eqb}
-use Rattle.queue.specs.Items.{itemsOf, pushed}
 use Rattle.record.specs.declared.Record.{Record}
 use Rattle.record.specs.declared.Taken.{Taken}
-use Rattle.record.specs.Record.{newRecord}
-use Rattle.record.specs.Record as Window
+use Rattle.record.specs.Record as Record
 use Rattle.player.specs.declared.Played.{Played}
 use Rattle.window.specs.Promise.{numberOf}
-use Rattle.script.specs.declared.Track.{Track}
+use Rattle.script.specs.declared.line.Line.{Line}
 use Rattle.script.specs.declared.Stage.{Stage}
-use Rattle.script.specs.declared.Reply.the-variants.{Answered}
+use Rattle.script.specs.declared.Reply.the-variants.{Answered, Empty}
 use Rattle.script.specs.declared.Stepped.{Stepped}
-use Rattle.script.specs.Stage.{noTrack}
 
--- the record and the lines of window w
-abbrev pub recordAt : ℕ → Stage → Record
-recordAt w s = cond (ltb w (s .player .count)) (getD (s .records) w newRecord) newRecord
+-- another record, and another line, for window w
+abbrev pub withRecord : ℕ → Record → Stage → Stage
+withRecord w r s = record { player = s .player; records = set (s .records) w r; lines = s .lines }
 
-abbrev pub trackAt : ℕ → Stage → Track
-trackAt w s = getD (s .tracks) w noTrack
-
--- two tracks with the same entries and acks on them
-pub record SameItems (t u : Track) : Type 0 where
-  pub line : itemsOf (t .line) ≡ itemsOf (u .line)
-  pub back : itemsOf (t .back) ≡ itemsOf (u .back)
-
--- the acks once the entry of a code is taken
-abbrev pub ackPushed : ℕ → List ℕ → List ℕ
-ackPushed code back = cond (eqb (code % 2) 1) (pushed 128 (code / 2) back) back
-
--- a line with the codes of a batch more: of one entry where the second index is 0, else of two
-abbrev pub loadedBy : ℕ → ℕ → List ℕ → List ℕ
-loadedBy a b line = cond (eqb b 0) (pushed 128 (a * 2 + 1) line) (pushed 128 (b * 2 + 1) (pushed 128 (a * 2) line))
+abbrev pub withLine : ℕ → Line → Stage → Stage
+withLine w l s = record { player = s .player; records = s .records; lines = set (s .lines) w l }
 
 -- a call of the player, and nothing else
 abbrev pub calledBy : Stage → Played → Stepped
 calledBy s r = record {
   reply = Answered (numberOf (r .answer));
-  stage = record { player = r .player; records = s .records; tracks = s .tracks };
+  stage = record { player = r .player; records = s .records; lines = s .lines };
 }
 
--- a call of the player, and where it is answered 0 other lines for window w
-abbrev pub settledBy : Stage → Played → ℕ → Track → Stepped
-settledBy s r w t = record {
-  reply = Answered (numberOf (r .answer));
-  stage = record {
-    player = r .player;
-    records = s .records;
-    tracks = cond (eqb (numberOf (r .answer)) 0) (set (s .tracks) w t) (s .tracks);
-  };
-}
+-- a call of the player, and where it is answered 0 another line for window w
+abbrev pub settledBy : Stage → Played → ℕ → Line → Stepped
+settledBy s r w l = cond (eqb (numberOf (r .answer)) 0) (calledBy (withLine w l s) r) (calledBy s r)
 
--- a Take, and other lines for window w
-abbrev pub tookBy : Stage → Taken → ℕ → Track → Stepped
-tookBy s r w t = record {
-  reply = Answered (Window.numberOf (r .answer));
-  stage = record { player = s .player; records = set (s .records) w (r .record); tracks = set (s .tracks) w t };
-}
+-- a Take at window w, and another line for it
+abbrev pub tookBy : Stage → Taken → ℕ → Line → Stepped
+tookBy s r w l = record { reply = Answered (Record.numberOf (r .answer)); stage = withLine w l (withRecord w (r .record) s) }
+
+-- a Take or an Ack where the line of window w is empty
+abbrev pub nothingAt : ℕ → Stage → Stepped
+nothingAt w s = record { reply = cond (ltb w (s .player .count)) Empty (Answered 2); stage = s }

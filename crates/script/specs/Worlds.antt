@@ -1,32 +1,37 @@
 -- Laws of a stage as a world: the player in it, a window's side, and a stage of which a part is replaced.
 use Prim.Native.Nat.{ℕ, _≤_, _<_}
-use mathlib.Core.Path.{_≡_, sym, ap, _∙_}
+use mathlib.Core.Path.{_≡_, refl, sym, ap, _∙_}
 use mathlib.Core.List.{List}
-use mathlib.Core.Bool.{true}
+use mathlib.Core.Bool.{Bool, true, false, cond}
 use native.Mathlib.Omega.{arith}
-use borrow.Author.Tests.{eqb-true}
+use borrow.Author.Tests.{eqb-true, lt-ltb, ltb-true, ltb-false}
 use lib.ListN.{length, getD, set, List·getD-eq-default}
+use lib.Seq.{set-getD}
+use lib.Dec.{ltb}
 use Rattle.journal.specs.declared.Entry.{Entry}
-use Rattle.lists.specs.Cases.{and-left}
 use Rattle.journal.specs.Entry.{inShape, entriesOf}
-use Rattle.queue.specs.Items.{itemsOf}
+use Rattle.journal.specs.EntryLaws.{numbersOf-entriesOf}
+use Rattle.lists.specs.Cases.{and-left}
 use Rattle.record.specs.declared.Record.{Record}
 use Rattle.record.specs.Record.{newRecord}
 use Rattle.window.specs.declared.Window.{Window}
-use Rattle.player.specs.declared.Player.{Player}
-use Rattle.rules.specs.View.{WindowView, PlayerView, noWindow}
 use Rattle.window.specs.View.{viewOf}
+use Rattle.rules.specs.View.{WindowView, PlayerView, noWindow}
+use Rattle.rules.specs.Rules.{windowAt, withWindow}
+use Rattle.player.specs.declared.Player.{Player}
 use Rattle.player.specs.View.{playerOf}
 use Rattle.player.specs.Views.{firstWindows-length, firstWindows-at}
-use Rattle.rules.specs.Rules.{windowAt, withWindow}
-use Rattle.delivery.specs.World.{noSide, sideAt, numbersIn, playerIn, withPlayer, withSide}
-use Rattle.delivery.specs.Worlds.{window-in}
-use Rattle.script.specs.declared.Track.{Track}
+use Rattle.delivery.specs.World.{Side, World, noSide, sideAt, numbersIn, playerIn, withView, withPlayer, withSide}
+use Rattle.delivery.specs.Worlds.{withPlayer-window, withSide-here, withSide-twice}
+use Rattle.script.specs.declared.line.Line.{Line}
 use Rattle.script.specs.declared.Stage.{Stage}
-use Rattle.script.specs.Stage.{sideOf, sidesOf, worldOf, forgotten}
-use Rattle.script.specs.Stored.{trackAt}
-use Rattle.journal.specs.EntryLaws.{numbersOf-entriesOf}
-use Rattle.script.specs.Sides.{termsOf, sidesOf-length, sidesOf-forget, sidesOf-views, sidesOf-at, sidesOf-set, sidesOf-with, forgotten-player}
+use Rattle.script.specs.Cells.{front}
+use Rattle.script.specs.Line.{sentIn, acksIn, freshLine}
+use Rattle.script.specs.Stage.{sideOf, sidesOf, worldOf, forget, forgotten, recordAt, lineAt}
+use Rattle.script.specs.Sides.{sidesOf-length, sidesOf-forget, sidesOf-views, sidesOf-at, sidesOf-set, sidesOf-with, forgotten-player, forgotten-side}
+
+-- ------------------------------------------------------------------------
+-- the player
 
 -- a player shows as many windows as its count says
 pub playerOf-count : (p : Player) → length (playerOf p .windows) ≡ p .count
@@ -41,6 +46,25 @@ pub windowAt-here : (p : Player) (w : ℕ) (d : Window) → w < p .count → p .
 unfolding playerOf
 windowAt-here p w d l h = firstWindows-at (p .count) (p .windows) w noWindow d l h
 
+-- ------------------------------------------------------------------------
+-- a world's side changed
+
+-- the side of window w, changed
+abbrev pub changed : ℕ → (Side → Side) → World → World
+changed w g wd = withSide w (g (sideAt w wd)) wd
+
+-- a turn of window w, and then a change of its side
+pub changed-turn : (w : ℕ) (g : Side → Side) (v : WindowView) (q : PlayerView) (wd : World) → w < length (wd .sides) → q ≡ withWindow w v (playerIn wd) →
+    changed w g (withPlayer q wd) ≡ withSide w (g (withView v (sideAt w wd))) wd
+changed-turn w g v q wd l e =
+    let turned : Side = withView v (sideAt w wd) in
+    ap (changed w g) (withPlayer-window wd q w v e)
+    ∙ ap (λ p. withSide w (g p) (withSide w turned wd)) (withSide-here w turned wd l)
+    ∙ withSide-twice w turned (g turned) wd
+
+-- ------------------------------------------------------------------------
+-- worldOf
+
 -- the numbers in the world of a journal in shape
 pub worldOf-numbers : (ns : List ℕ) (s : Stage) → inShape ns ≡ true → numbersIn (worldOf (entriesOf ns) s) ≡ ns
 unfolding worldOf
@@ -49,62 +73,82 @@ worldOf-numbers ns s h = numbersOf-entriesOf ns (eqb-true _ _ (and-left _ _ h))
 pub worldOf-forgotten : (j : List Entry) (s : Stage) → forgotten (worldOf j s) ≡ worldOf j s
 unfolding worldOf forgotten
 worldOf-forgotten j s =
-    ap (λ ps. record { journal = j; limit = playerOf (s .player) .limit; current = playerOf (s .player) .current; sides = ps })
-    (sidesOf-forget j (playerOf (s .player) .windows) (s .records) (s .tracks))
+    let q : PlayerView = playerOf (s .player) in
+    ap (λ ps. record { journal = j; limit = q .limit; current = q .current; sides = ps }) (sidesOf-forget (q .windows) (s .records) (s .lines))
 
 pub worldOf-count : (j : List Entry) (s : Stage) → length (worldOf j s .sides) ≡ s .player .count
 unfolding worldOf
-worldOf-count j s = sidesOf-length j (playerOf (s .player) .windows) (s .records) (s .tracks) ∙ playerOf-count (s .player)
+worldOf-count j s = sidesOf-length (playerOf (s .player) .windows) (s .records) (s .lines) ∙ playerOf-count (s .player)
 
-pub worldOf-none : (j : List Entry) (s : Stage) (w : ℕ) → s .player .count ≤ w → sideAt w (worldOf j s) ≡ noSide
-worldOf-none j s w h = List·getD-eq-default (worldOf j s .sides) noSide {n = w} (rw worldOf-count h)
+-- a side of the world replaced is replaced by one without history
+pub worldOf-forgets : (j : List Entry) (s : Stage) (w : ℕ) (p : Side) → forgotten (withSide w p (worldOf j s)) ≡ withSide w (forget p) (worldOf j s)
+worldOf-forgets j s w p = forgotten-side w p (worldOf j s) ∙ ap (withSide w (forget p)) (worldOf-forgotten j s)
 
 -- a stage that code holds, with at most 16 windows
 pub record Staged (s : Stage) : Type 0 where
   pub few : s .player .count ≤ 16
   pub records : length (s .records) ≡ 16
-  pub tracks : length (s .tracks) ≡ 16
+  pub lines : length (s .lines) ≡ 16
 
 module _ (j : List Entry) (s : Stage) (h : Staged s) where
   records-few : length (playerOf (s .player) .windows) ≤ length (s .records)
   records-few = omega (arith, playerOf-count (s .player))
 
-  tracks-few : length (playerOf (s .player) .windows) ≤ length (s .tracks)
-  tracks-few = omega (arith, playerOf-count (s .player))
+  lines-few : length (playerOf (s .player) .windows) ≤ length (s .lines)
+  lines-few = omega (arith, playerOf-count (s .player))
 
   pub worldOf-player : playerIn (worldOf j s) ≡ playerOf (s .player)
   unfolding worldOf
   worldOf-player =
-      ap (λ vs. record { limit = playerOf (s .player) .limit; current = playerOf (s .player) .current; windows = vs })
-      (sidesOf-views j (playerOf (s .player) .windows) (s .records) (s .tracks) records-few tracks-few)
+      let q : PlayerView = playerOf (s .player) in
+      ap (λ vs. record { limit = q .limit; current = q .current; windows = vs }) (sidesOf-views (q .windows) (s .records) (s .lines) records-few lines-few)
 
-  -- the view at a side is the player's window, in every world
-  pub worldOf-view : (w : ℕ) → sideAt w (worldOf j s) .view ≡ windowAt w (playerOf (s .player))
-  worldOf-view w = sym (window-in w (worldOf j s)) ∙ ap (windowAt w) worldOf-player
+  -- a window's side: what the player holds for it, its record and its line
+  pub worldOf-side : (w : ℕ) → sideAt w (worldOf j s) ≡ sideOf (windowAt w (playerOf (s .player))) (recordAt w s) (lineAt w s)
+  unfolding worldOf sentIn acksIn front
+  worldOf-side w = by (ltb w (s .player .count)) refl
+    where
+      by : (b : Bool) → ltb w (s .player .count) ≡ b → sideAt w (worldOf j s)
+          ≡ sideOf (windowAt w (playerOf (s .player))) (cond b (getD (s .records) w newRecord) newRecord) (cond b (getD (s .lines) w freshLine) freshLine)
+      by true e =
+          sidesOf-at (playerOf (s .player) .windows) (s .records) (s .lines) w (omega (arith, playerOf-count (s .player), ltb-true w (s .player .count) e)) records-few lines-few
+      by false e =
+          List·getD-eq-default (worldOf j s .sides) noSide {n = w} (rw (worldOf-count j s) (ltb-false _ _ e))
+          ∙ ap (λ v. sideOf v newRecord freshLine) (sym (windowAt-none (s .player) w (ltb-false _ _ e)))
 
-  pub worldOf-side : (w : ℕ) → w < s .player .count →
-      sideAt w (worldOf j s)
-      ≡ sideOf j (windowAt w (playerOf (s .player))) (getD (s .records) w newRecord) (itemsOf (trackAt w s .line)) (itemsOf (trackAt w s .back))
-  unfolding worldOf
-  worldOf-side w l =
-      sidesOf-at j (playerOf (s .player) .windows) (s .records) (s .tracks) w (omega (arith, playerOf-count (s .player))) records-few tracks-few
-
-  -- the player replaced, with the terms as they were
-  pub worldOf-called : (p : Player) (q : PlayerView) → playerOf p ≡ q → termsOf (q .windows) ≡ termsOf (playerOf (s .player) .windows) →
-      worldOf j (record { player = p; records = s .records; tracks = s .tracks }) ≡ forgotten (withPlayer q (worldOf j s))
+  -- the player replaced by one of as many windows
+  pub worldOf-called : (p : Player) (q : PlayerView) → playerOf p ≡ q → length (q .windows) ≡ length (playerOf (s .player) .windows) →
+      worldOf j (record { player = p; records = s .records; lines = s .lines }) ≡ forgotten (withPlayer q (worldOf j s))
   unfolding worldOf withPlayer
   worldOf-called p q e same =
-      ap (λ q. record { journal = j; limit = q .limit; current = q .current; sides = sidesOf j (q .windows) (s .records) (s .tracks) }) e
+      ap (λ q. record { journal = j; limit = q .limit; current = q .current; sides = sidesOf (q .windows) (s .records) (s .lines) }) e
       ∙ ap (λ ps. record { journal = j; limit = q .limit; current = q .current; sides = ps })
-      (sidesOf-with j (q .windows) (playerOf (s .player) .windows) (s .records) (s .tracks) same records-few tracks-few)
+      (sidesOf-with (q .windows) (playerOf (s .player) .windows) (s .records) (s .lines) same records-few lines-few)
       ∙ sym (forgotten-player q (worldOf j s) ∙ ap (withPlayer q) (worldOf-forgotten j s))
 
-  -- the view, the record and the lines of window w replaced
-  pub worldOf-placed : (p : Player) (w : ℕ) (v : WindowView) (r : Record) (t : Track) → playerOf p ≡ withWindow w v (playerOf (s .player)) →
-      worldOf j (record { player = p; records = set (s .records) w r; tracks = set (s .tracks) w t })
-      ≡ withSide w (sideOf j v r (itemsOf (t .line)) (itemsOf (t .back))) (worldOf j s)
-  unfolding worldOf
-  worldOf-placed p w v r t e =
-      ap (λ q. record { journal = j; limit = q .limit; current = q .current; sides = sidesOf j (q .windows) (set (s .records) w r) (set (s .tracks) w t) }) e
-      ∙ ap (λ ps. record { journal = j; limit = playerOf (s .player) .limit; current = playerOf (s .player) .current; sides = ps })
-      (sidesOf-set j (playerOf (s .player) .windows) (s .records) (s .tracks) w v r t records-few tracks-few)
+  module _ (w : ℕ) where
+    -- one side replaced, the others as before
+    pub worldOf-placed : (p : Player) (v : WindowView) (r : Record) (l : Line) → playerOf p ≡ withWindow w v (playerOf (s .player)) →
+        worldOf j (record { player = p; records = set (s .records) w r; lines = set (s .lines) w l }) ≡ withSide w (sideOf v r l) (worldOf j s)
+    unfolding worldOf
+    worldOf-placed p v r l e =
+        let q : PlayerView = playerOf (s .player) in
+        ap (λ q. record { journal = j; limit = q .limit; current = q .current; sides = sidesOf (q .windows) (set (s .records) w r) (set (s .lines) w l) }) e
+        ∙ ap (λ ps. record { journal = j; limit = q .limit; current = q .current; sides = ps })
+        (sidesOf-set (q .windows) (s .records) (s .lines) w v r l records-few lines-few)
+
+    -- a turn of window w and another line for it, where the world changes the window's side so after that turn
+    pub worldOf-turned : (p : Player) (q : PlayerView) (v : WindowView) (l : Line) (g : Side → Side) → w < s .player .count → playerOf p ≡ q →
+        q ≡ withWindow w v (playerOf (s .player)) → sideOf v (recordAt w s) l ≡ forget (g (withView v (sideAt w (worldOf j s)))) →
+        worldOf j (record { player = p; records = s .records; lines = set (s .lines) w l }) ≡ forgotten (changed w g (withPlayer q (worldOf j s)))
+    worldOf-turned p q v l g here is turn same =
+        let wd : World = worldOf j s in
+        ap (λ rs. worldOf j (record { player = p; records = rs; lines = set (s .lines) w l })) (sym (set-getD (s .records) w newRecord))
+        ∙ worldOf-placed p v (getD (s .records) w newRecord) l (is ∙ turn)
+        ∙ ap (λ r. withSide w (sideOf v r l) wd) (sym (recordAt-here (lt-ltb w (s .player .count) here)))
+        ∙ ap (λ x. withSide w x wd) same
+        ∙ sym (worldOf-forgets j s w (g (withView v (sideAt w wd))))
+        ∙ sym (ap forgotten (changed-turn w g v q wd (omega (arith, worldOf-count j s)) (turn ∙ ap (withWindow w v) (sym worldOf-player))))
+      where
+        recordAt-here : ltb w (s .player .count) ≡ true → recordAt w s ≡ getD (s .records) w newRecord
+        recordAt-here e = rw e

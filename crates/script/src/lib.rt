@@ -1,35 +1,19 @@
 // A run by script: the player, the windows' records and the lines between them, by value, and one step at a time.
+mod calls;
+mod line;
 mod open;
+mod parts;
 mod play;
 
+use line::Line;
 use player::Player;
-use queue::Queue;
 use record::Record;
 
-// Both ways of a window's line. An entry on its way is twice its index, and one more where it is the last of its batch; an ack is its
-// index. Every term on a line is the window's own.
-pub struct Track {
-    pub line: Queue,
-    pub back: Queue,
-}
-
-// The player, and the record and the lines of each window. Those from the number of windows up are no part of it.
+// The player, and the record and the line of each window. Those from the number of windows up are no part of it.
 pub struct Stage {
     pub player: Player,
     pub records: [Record; 16],
-    pub tracks: [Track; 16],
-}
-
-// One step of a script. A window is 0 to 99.
-pub enum Step {
-    Main,
-    Catch(u32),
-    Send(u32),
-    Written(u32),
-    Ack(u32),
-    Drop(u32),
-    Join(u32),
-    Take(u32),
+    pub lines: [Line; 16],
 }
 
 // What a step answers: document 01's number, or that a Take or an Ack found its line empty.

@@ -1,10 +1,9 @@
 // The beginning of a run: a first Start, on new records and empty lines.
 use crate::Opened;
 use crate::Stage;
-use crate::Track;
+use crate::line::Line;
 use journal::Index;
 use player::Player;
-use queue::Queue;
 use record::Record;
 use window::Window;
 ghost use mathlib.Core.Path.{_≡_};
@@ -31,15 +30,12 @@ fn around(player: Player) -> Stage
 {
     let record = Record::new();
     let records = [record; 16];
-    let track = Track {
-        line: Queue::new(),
-        back: Queue::new(),
-    };
-    let tracks = [track; 16];
+    let line = Line::new();
+    let lines = [line; 16];
     Stage {
         player,
         records,
-        tracks,
+        lines,
     }
 }
 

@@ -13,11 +13,12 @@ use Rattle.decimal.specs.Numeral.{numeral, front, readAt}
 use Rattle.decimal.specs.Laws.{read-at, read-accepts}
 use Rattle.decimal.specs.declared.Numeral.{Numeral}
 use Rattle.decimal.specs.declared.Numeral.the-variants.{Number, Nothing}
-use Rattle.script_line.specs.declared.Order.{Order}
-use Rattle.script_line.specs.declared.Order.the-variants.{Main, Catch, Send, Written, Ack, Drop, Join, Take, Bad}
 use Rattle.script_line.specs.declared.Verb.{Verb}
+use Rattle.script_line.specs.declared.Verb.the-variants.{Catch, Send, Written, Ack, Drop, Join, Take}
+use Rattle.script_line.specs.declared.Step.the-variants.{Main, At}
+use Rattle.script_line.specs.declared.StepLine.{StepLine}
 use Rattle.script_line.specs.declared.Windows.the-variants.{Count, Malformed}
-use Rattle.script_line.specs.Line.{same, numberAfter, orderFor, orElse, windowedOf, orderOf, wordOf, windowsOf}
+use Rattle.script_line.specs.Line.{same, numberAfter, wordOf, stepOr, windowedOr, windowedOf, stepOf, windowsOf}
 use Rattle.script_line.specs.Line.{mainWord, catchWord, sendWord, writtenWord, ackWord, dropWord, joinWord, takeWord, windowsWord}
 
 -- ------------------------------------------------------------------------
@@ -101,60 +102,45 @@ numberAfter-accepts word bound line n next e = by (same (take (length word) line
     by false p f r = absurd (nothing-number n next (simp p at e))
 
 -- ------------------------------------------------------------------------
--- orderOf
+-- stepOf
 
 -- a step with a window reads back
-pub orderOf-reads : (verb : Verb) (w : ℕ) → w ≤ 99 → orderOf (wordOf verb ++ numeral w) ≡ orderFor verb w
-unfolding orderOf numberAfter same
-orderOf-reads Verb.Catch w h = simp (numberAfter-reads catchWord 99 w h)
-orderOf-reads Verb.Send w h = simp (numberAfter-reads sendWord 99 w h)
-orderOf-reads Verb.Written w h = simp (numberAfter-reads writtenWord 99 w h)
-orderOf-reads Verb.Ack w h = simp (numberAfter-reads ackWord 99 w h)
-orderOf-reads Verb.Drop w h = simp (numberAfter-reads dropWord 99 w h)
-orderOf-reads Verb.Join w h = simp (numberAfter-reads joinWord 99 w h)
-orderOf-reads Verb.Take w h = simp (numberAfter-reads takeWord 99 w h)
+pub stepOf-reads : (verb : Verb) (w : ℕ) → w ≤ 99 → stepOf (wordOf verb ++ numeral w) ≡ StepLine.Step (At verb w)
+unfolding stepOf numberAfter same
+stepOf-reads Catch w h = simp (numberAfter-reads catchWord 99 w h)
+stepOf-reads Send w h = simp (numberAfter-reads sendWord 99 w h)
+stepOf-reads Written w h = simp (numberAfter-reads writtenWord 99 w h)
+stepOf-reads Ack w h = simp (numberAfter-reads ackWord 99 w h)
+stepOf-reads Drop w h = simp (numberAfter-reads dropWord 99 w h)
+stepOf-reads Join w h = simp (numberAfter-reads joinWord 99 w h)
+stepOf-reads Take w h = simp (numberAfter-reads takeWord 99 w h)
 
 -- what a line is, by what it reads as: every step that is read was written
-unfoldable pub Says : List ℕ → Order → Type 0
-Says line Main = line ≡ mainWord
-Says line (Catch w) = Holds catchWord 99 line w
-Says line (Send w) = Holds sendWord 99 line w
-Says line (Written w) = Holds writtenWord 99 line w
-Says line (Ack w) = Holds ackWord 99 line w
-Says line (Drop w) = Holds dropWord 99 line w
-Says line (Join w) = Holds joinWord 99 line w
-Says line (Take w) = Holds takeWord 99 line w
-Says line Bad = Unit {0}
+unfoldable pub Says : List ℕ → StepLine → Type 0
+Says line (StepLine.Step Main) = line ≡ mainWord
+Says line (StepLine.Step (At verb w)) = Holds (wordOf verb) 99 line w
+Says line StepLine.Malformed = Unit {0}
 
-says-verb : (verb : Verb) (line : List ℕ) (w : ℕ) → Holds (wordOf verb) 99 line w → Says line (orderFor verb w)
+says-or : (verb : Verb) (line : List ℕ) (other : StepLine) → Says line other → Says line (windowedOr verb line other)
 unfolding Says
-says-verb Verb.Catch line w h = h
-says-verb Verb.Send line w h = h
-says-verb Verb.Written line w h = h
-says-verb Verb.Ack line w h = h
-says-verb Verb.Drop line w h = h
-says-verb Verb.Join line w h = h
-says-verb Verb.Take line w h = h
-
-says-or : (verb : Verb) (line : List ℕ) (o : Order) → Says line o → Says line (orElse (orderFor verb) (numberAfter (wordOf verb) 99 line) o)
-says-or verb line o s = by (numberAfter (wordOf verb) 99 line) refl
+says-or verb line other s = by (numberAfter (wordOf verb) 99 line) refl
   where
-    by : (f : Numeral) → numberAfter (wordOf verb) 99 line ≡ f → Says line (orElse (orderFor verb) f o)
-    by (Number w next) e = says-verb verb line w (numberAfter-accepts (wordOf verb) 99 line w next e)
+    by : (f : Numeral) → numberAfter (wordOf verb) 99 line ≡ f → Says line (stepOr verb f other)
+    by (Number w next) e = numberAfter-accepts (wordOf verb) 99 line w next e
     by Nothing e = s
 
-pub orderOf-says : (line : List ℕ) → Says line (orderOf line)
-unfolding orderOf Says
-orderOf-says line = by (same line mainWord) refl
+pub stepOf-says : (line : List ℕ) → Says line (stepOf line)
+unfolding stepOf Says
+stepOf-says line = by (same line mainWord) refl
   where
     windowed : Says line (windowedOf line)
     windowed =
-        says-or Verb.Catch line _
-        (says-or Verb.Send line _
-        (says-or Verb.Written line _
-        (says-or Verb.Ack line _ (says-or Verb.Drop line _ (says-or Verb.Join line _ (says-or Verb.Take line Bad tt))))))
+        says-or Catch line _
+        (says-or Send line _
+        (says-or Written line _
+        (says-or Ack line _ (says-or Drop line _ (says-or Join line _ (says-or Take line StepLine.Malformed tt))))))
 
-    by : (b : Bool) → same line mainWord ≡ b → Says line (cond b Main (windowedOf line))
+    by : (b : Bool) → same line mainWord ≡ b → Says line (cond b (StepLine.Step Main) (windowedOf line))
     by true e = same-equal line mainWord e
     by false e = windowed
 
@@ -186,23 +172,23 @@ windowsOf-accepts line n e = by (numberAfter windowsWord 16 line) refl
 -- ------------------------------------------------------------------------
 -- examples
 
-read-catch : orderOf (catchWord ++ (57 ∷ 57 ∷ [])) ≡ Catch 99
-unfolding orderOf numberAfter same readAt
+read-catch : stepOf (catchWord ++ (57 ∷ 57 ∷ [])) ≡ StepLine.Step (At Catch 99)
+unfolding stepOf numberAfter same readAt
 read-catch = refl
 
 -- a window of 100, a leading zero, a second blank and a blank after the number are malformed
-read-hundred : orderOf (catchWord ++ (49 ∷ 48 ∷ 48 ∷ [])) ≡ Bad
-unfolding orderOf numberAfter same readAt
+read-hundred : stepOf (catchWord ++ (49 ∷ 48 ∷ 48 ∷ [])) ≡ StepLine.Malformed
+unfolding stepOf numberAfter same readAt
 read-hundred = refl
 
-read-zero : orderOf (catchWord ++ (48 ∷ 57 ∷ [])) ≡ Bad
-unfolding orderOf numberAfter same readAt
+read-zero : stepOf (catchWord ++ (48 ∷ 57 ∷ [])) ≡ StepLine.Malformed
+unfolding stepOf numberAfter same readAt
 read-zero = refl
 
-read-blank : orderOf (catchWord ++ (32 ∷ 57 ∷ [])) ≡ Bad
-unfolding orderOf numberAfter same readAt
+read-blank : stepOf (catchWord ++ (32 ∷ 57 ∷ [])) ≡ StepLine.Malformed
+unfolding stepOf numberAfter same readAt
 read-blank = refl
 
-read-after : orderOf (catchWord ++ (57 ∷ 32 ∷ [])) ≡ Bad
-unfolding orderOf numberAfter same readAt
+read-after : stepOf (catchWord ++ (57 ∷ 32 ∷ [])) ≡ StepLine.Malformed
+unfolding stepOf numberAfter same readAt
 read-after = refl

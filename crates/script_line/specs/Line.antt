@@ -7,11 +7,11 @@ use lib.Dec.{leb, eqb}
 use Rattle.decimal.specs.Numeral.{readAt}
 use Rattle.decimal.specs.declared.Numeral.{Numeral}
 use Rattle.decimal.specs.declared.Numeral.the-variants.{Number, Nothing}
-use Rattle.script_line.specs.declared.Order.{Order}
-use Rattle.script_line.specs.declared.Order.the-variants.{Main, Catch, Send, Written, Ack, Drop, Join, Take, Bad}
 use Rattle.script_line.specs.declared.Verb.{Verb}
+use Rattle.script_line.specs.declared.Verb.the-variants.{Catch, Send, Written, Ack, Drop, Join, Take}
+use Rattle.script_line.specs.declared.Step.the-variants.{Main, At}
+use Rattle.script_line.specs.declared.StepLine.{StepLine}
 use Rattle.script_line.specs.declared.Windows.{Windows}
-use Rattle.script_line.specs.declared.Windows.the-variants.{Count, Malformed}
 
 -- the words of the lines, each with the blank before its number
 abbrev pub mainWord : List ℕ
@@ -63,47 +63,38 @@ numberAfter word bound line =
 
 -- the word of a step that has a window
 abbrev pub wordOf : Verb → List ℕ
-wordOf Verb.Catch = catchWord
-wordOf Verb.Send = sendWord
-wordOf Verb.Written = writtenWord
-wordOf Verb.Ack = ackWord
-wordOf Verb.Drop = dropWord
-wordOf Verb.Join = joinWord
-wordOf Verb.Take = takeWord
+wordOf Catch = catchWord
+wordOf Send = sendWord
+wordOf Written = writtenWord
+wordOf Ack = ackWord
+wordOf Drop = dropWord
+wordOf Join = joinWord
+wordOf Take = takeWord
 
--- the step of a word at a window
-abbrev pub orderFor : Verb → ℕ → Order
-orderFor Verb.Catch w = Catch w
-orderFor Verb.Send w = Send w
-orderFor Verb.Written w = Written w
-orderFor Verb.Ack w = Ack w
-orderFor Verb.Drop w = Drop w
-orderFor Verb.Join w = Join w
-orderFor Verb.Take w = Take w
+-- a word's step at the number that is found, or another
+abbrev pub stepOr : Verb → Numeral → StepLine → StepLine
+stepOr verb (Number w next) other = StepLine.Step (At verb w)
+stepOr verb Nothing other = other
 
--- the step at the number that is found, or another
-abbrev pub orElse : (ℕ → Order) → Numeral → Order → Order
-orElse f (Number n next) o = f n
-orElse f Nothing o = o
+-- a word and a window of 0 to 99, or another
+abbrev pub windowedOr : Verb → List ℕ → StepLine → StepLine
+windowedOr verb line other = stepOr verb (numberAfter (wordOf verb) 99 line) other
 
--- a word and a window of 0 to 99
-abbrev pub windowedOf : List ℕ → Order
+abbrev pub windowedOf : List ℕ → StepLine
 windowedOf line =
-    orElse Catch (numberAfter catchWord 99 line)
-    (orElse Send (numberAfter sendWord 99 line)
-    (orElse Written (numberAfter writtenWord 99 line)
-    (orElse Ack (numberAfter ackWord 99 line)
-    (orElse Drop (numberAfter dropWord 99 line)
-    (orElse Join (numberAfter joinWord 99 line) (orElse Take (numberAfter takeWord 99 line) Bad))))))
+    windowedOr Catch line
+    (windowedOr Send line
+    (windowedOr Written line
+    (windowedOr Ack line (windowedOr Drop line (windowedOr Join line (windowedOr Take line StepLine.Malformed))))))
 
 -- a step line: `main`, or a word and a window
-unfoldable pub orderOf : List ℕ → Order
-orderOf line = cond (same line mainWord) Main (windowedOf line)
+unfoldable pub stepOf : List ℕ → StepLine
+stepOf line = cond (same line mainWord) (StepLine.Step Main) (windowedOf line)
 
 -- a number of windows, at least 1
 abbrev pub countIn : Numeral → Windows
-countIn (Number n next) = cond (leb 1 n) (Count n) Malformed
-countIn Nothing = Malformed
+countIn (Number n next) = cond (leb 1 n) (Windows.Count n) Windows.Malformed
+countIn Nothing = Windows.Malformed
 
 -- the first line: `windows` and a number of 1 to 16
 unfoldable pub windowsOf : List ℕ → Windows

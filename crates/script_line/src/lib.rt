@@ -2,29 +2,10 @@
 use decimal::Numeral;
 ghost use mathlib.Core.Path.{_≡_};
 ghost use lib.ListN.{length, take};
-ghost use Rattle.script_line.specs.Line.{same, whole, numberAfter, orderFor, orElse, orderOf, windowsOf, runWord};
-
-// A step line: the step and its window, or that the line is malformed.
-pub enum Order {
-    Main,
-    Catch(u32),
-    Send(u32),
-    Written(u32),
-    Ack(u32),
-    Drop(u32),
-    Join(u32),
-    Take(u32),
-    Bad,
-}
-
-// The first line: the number of windows, 1 to 16, or that the line is malformed.
-pub enum Windows {
-    Count(u32),
-    Malformed,
-}
+ghost use Rattle.script_line.specs.Line.{same, whole, numberAfter, stepOr, stepOf, windowsOf, runWord};
 
 // The word of a step that has a window.
-enum Verb {
+pub enum Verb {
     Catch,
     Send,
     Written,
@@ -32,6 +13,24 @@ enum Verb {
     Drop,
     Join,
     Take,
+}
+
+// A step of a script: `main`, or a word and a window of 0 to 99.
+pub enum Step {
+    Main,
+    At(Verb, u32),
+}
+
+// A step line: the step, or that the line is malformed.
+pub enum StepLine {
+    Step(Step),
+    Malformed,
+}
+
+// The first line: the number of windows, 1 to 16, or that the line is malformed.
+pub enum Windows {
+    Count(u32),
+    Malformed,
 }
 
 // Whether the two have the same bytes.
@@ -75,39 +74,24 @@ fn number_after(line: &[u8], word: &[u8], bound: u32) -> Numeral
     Numeral::Nothing
 }
 
-// The step of a word at a window.
-fn order_of(verb: Verb, w: u32) -> Order
-    ensures { λ r. ⌜ r ≡ orderFor verb w ⌝ }
-{
-    match verb {
-        Verb::Catch => Order::Catch(w),
-        Verb::Send => Order::Send(w),
-        Verb::Written => Order::Written(w),
-        Verb::Ack => Order::Ack(w),
-        Verb::Drop => Order::Drop(w),
-        Verb::Join => Order::Join(w),
-        Verb::Take => Order::Take(w),
-    }
-}
-
 // The step of a word, if the line is the word and a window of at most 99; `other` where it is not.
-fn step_or(line: &[u8], word: &[u8], verb: Verb, other: Order) -> Order
-    ensures { λ r. ⌜ r ≡ orElse (orderFor verb) (numberAfter (now (word .entry)) 99 (now (line .entry))) other ⌝ }
+fn step_or(line: &[u8], word: &[u8], verb: Verb, other: StepLine) -> StepLine
+    ensures { λ r. ⌜ r ≡ stepOr verb (numberAfter (now (word .entry)) 99 (now (line .entry))) other ⌝ }
 {
     match number_after(line, word, 99) {
-        Numeral::Number(w, _) => order_of(verb, w),
+        Numeral::Number(w, _) => StepLine::Step(Step::At(verb, w)),
         Numeral::Nothing => other,
     }
 }
 
 // What a step line says.
-pub fn read_step(line: &[u8]) -> Order
-    ensures { λ r. ⌜ r ≡ orderOf (now (line .entry)) ⌝ }
+pub fn read_step(line: &[u8]) -> StepLine
+    ensures { λ r. ⌜ r ≡ stepOf (now (line .entry)) ⌝ }
 {
     if equal(line, b"main") {
-        return Order::Main;
+        return StepLine::Step(Step::Main);
     }
-    let take = step_or(line, b"take ", Verb::Take, Order::Bad);
+    let take = step_or(line, b"take ", Verb::Take, StepLine::Malformed);
     let join = step_or(line, b"join ", Verb::Join, take);
     let drop = step_or(line, b"drop ", Verb::Drop, join);
     let ack = step_or(line, b"ack ", Verb::Ack, drop);

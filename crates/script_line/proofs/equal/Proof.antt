@@ -1,4 +1,4 @@
--- `steps::equal` meets its contract: `check::same` is true exactly of equal slices.
+-- `check::same` is true exactly of equal slices.
 use borrow.Author.Needs.{needs}
 use Rattle.script_line.specs.Laws.{same-decides}
 use Rattle.script_line.proofs.equal.Statement.{statement}

@@ -1,6 +1,6 @@
 -- Each word is tried in turn, the last one first.
 use mathlib.Core.Path.{sym, _∙_}
-use Rattle.script_line.specs.Line.{orderOf}
+use Rattle.script_line.specs.Line.{stepOf}
 use borrow.Author.Needs.{needs}
 use Rattle.script_line.proofs.read_step.Statement.{statement}
 use Rattle.script_line.proofs.read_step.Tie as tie
@@ -12,7 +12,7 @@ equal-requires : tie.Need-equal-requires
 equal-requires c κs = search needs
 
 returns : tie.Need-returns
-unfolding orderOf
+unfolding stepOf
 returns c = simp (sym (c .before .equal .ensures) ∙ c .if1 .taken)
 
 slice-aggregate-step-or : tie.Need-slice-aggregate-step-or
@@ -58,7 +58,7 @@ step-or-requires-7 : tie.Need-step-or-requires-7
 step-or-requires-7 c κs = search needs
 
 returns-2 : tie.Need-returns-2
-unfolding orderOf
+unfolding stepOf
 returns-2 c =
     let c6 = c .before .before in
     let c5 = c6 .before .before in

@@ -10,16 +10,11 @@ number-after-requires c κs = search needs
 enum-known-w : tie.Need-enum-known-w
 enum-known-w c = search needs
 
-order-of-requires : tie.Need-order-of-requires
-order-of-requires c κs = search needs
-
 enum-told : tie.Need-enum-told
 enum-told c = search needs
 
 returns : tie.Need-returns
-returns c =
-    let found = c .before .before in
-    simp (sym (found .before .before .number-after .ensures) ∙ found .w .given .1) (c .order-of .ensures)
+returns c = simp (sym (c .before .before .before .number-after .ensures) ∙ c .before .w .given .1)
 
 returns-2 : tie.Need-returns-2
 returns-2 c = simp (sym (c .before .before .number-after .ensures) ∙ c .enum-told .given .1)
@@ -27,4 +22,4 @@ returns-2 c = simp (sym (c .before .before .number-after .ensures) ∙ c .enum-t
 pub step-or-spec : {M : Type 1} → statement M
 step-or-spec =
     tie.close
-    (tie.spec number-after-requires enum-known-w order-of-requires enum-told returns returns-2)
+    (tie.spec number-after-requires enum-known-w enum-told returns returns-2)

@@ -52,17 +52,17 @@ returns-2 c = search needs
 add-at : tie.Need-add-at Inv-loop μ-loop
 add-at c = search needs
 
-sub-step-in : tie.Need-sub-step-in Inv-loop μ-loop
-sub-step-in c = search needs
+sub-read-step : tie.Need-sub-read-step Inv-loop μ-loop
+sub-read-step c = search needs
 
-part-step-in-start : tie.Need-part-step-in-start Inv-loop μ-loop
-part-step-in-start c = search needs
+part-read-step-start : tie.Need-part-read-step-start Inv-loop μ-loop
+part-read-step-start c = search needs
 
-part-step-in-end : tie.Need-part-step-in-end Inv-loop μ-loop
-part-step-in-end c = search needs
+part-read-step-end : tie.Need-part-read-step-end Inv-loop μ-loop
+part-read-step-end c = search needs
 
-step-in-requires : tie.Need-step-in-requires Inv-loop μ-loop
-step-in-requires c κs = search needs
+read-step-requires : tie.Need-read-step-requires Inv-loop μ-loop
+read-step-requires c κs = search needs
 
 enum-known-step : tie.Need-enum-known-step Inv-loop μ-loop
 enum-known-step c = search needs
@@ -126,10 +126,10 @@ play-steps-spec =
     same-length-4
     returns-2
     add-at
-    sub-step-in
-    part-step-in-start
-    part-step-in-end
-    step-in-requires
+    sub-read-step
+    part-read-step-start
+    part-read-step-end
+    read-step-requires
     enum-known-step
     enum-told
     refuse-requires-2

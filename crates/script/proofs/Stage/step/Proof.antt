@@ -4,7 +4,7 @@ use mathlib.Core.Bool.{true, true≢false}
 use borrow.Author.Tests.{not-true, not-false}
 use Rattle.lists.specs.Cases.{and-left, and-right, and-intro}
 use Rattle.journal.specs.Entry.{inShape, entriesOf}
-use Rattle.script.specs.declared.Step.{Step}
+use Rattle.script_line.specs.declared.Step.{Step}
 use Rattle.script.specs.declared.Stepped.{Stepped}
 use Rattle.script.specs.Stage.{windowOf, roomAt}
 use Rattle.script.specs.Promise.{playable, Playable, Steps, Plays}
@@ -78,68 +78,14 @@ main-requires c κs = needed (c .before .before) _ (c .enum-told .given .1)
 enum-known-step : tie.Need-enum-known-step
 enum-known-step c = search needs
 
-catch-requires : tie.Need-catch-requires
-catch-requires c κs = needed (c .before .before .before) _ (c .before .step .given .1)
-
-enum-known-step-2 : tie.Need-enum-known-step-2
-enum-known-step-2 c = search needs
-
-send-requires : tie.Need-send-requires
-send-requires c κs = needed (c .before .before .before) _ (c .before .step2 .given .1)
-
-enum-known-step-3 : tie.Need-enum-known-step-3
-enum-known-step-3 c = search needs
-
-written-requires : tie.Need-written-requires
-written-requires c κs = needed (c .before .before .before) _ (c .before .step3 .given .1)
-
-enum-known-step-4 : tie.Need-enum-known-step-4
-enum-known-step-4 c = search needs
-
-ack-requires : tie.Need-ack-requires
-ack-requires c κs = needed (c .before .before .before) _ (c .before .step4 .given .1)
-
-enum-known-step-5 : tie.Need-enum-known-step-5
-enum-known-step-5 c = search needs
-
-drop-requires : tie.Need-drop-requires
-drop-requires c κs = needed (c .before .before .before) _ (c .before .step5 .given .1)
-
-enum-known-step-6 : tie.Need-enum-known-step-6
-enum-known-step-6 c = search needs
-
-join-requires : tie.Need-join-requires
-join-requires c κs = needed (c .before .before .before) _ (c .before .step6 .given .1)
-
-enum-known-step-7 : tie.Need-enum-known-step-7
-enum-known-step-7 c = search needs
-
-take-requires : tie.Need-take-requires
-take-requires c κs = needed (c .before .before .before) _ (c .before .step7 .given .1)
+at-requires : tie.Need-at-requires
+at-requires c κs = needed (c .before .before .before) _ (c .before .step .given .1)
 
 returns-3 : tie.Need-returns-3
 returns-3 c = arm (c .before .before .before) _ _ (c .before .enum-told .given .1) (c .main .ensures)
 
 returns-4 : tie.Need-returns-4
-returns-4 c = arm (c .before .before .before .before) _ _ (c .before .before .step .given .1) (c .catch .ensures)
-
-returns-5 : tie.Need-returns-5
-returns-5 c = arm (c .before .before .before .before) _ _ (c .before .before .step2 .given .1) (c .send .ensures)
-
-returns-6 : tie.Need-returns-6
-returns-6 c = arm (c .before .before .before .before) _ _ (c .before .before .step3 .given .1) (c .written .ensures)
-
-returns-7 : tie.Need-returns-7
-returns-7 c = arm (c .before .before .before .before) _ _ (c .before .before .step4 .given .1) (c .ack .ensures)
-
-returns-8 : tie.Need-returns-8
-returns-8 c = arm (c .before .before .before .before) _ _ (c .before .before .step5 .given .1) (c .drop .ensures)
-
-returns-9 : tie.Need-returns-9
-returns-9 c = arm (c .before .before .before .before) _ _ (c .before .before .step6 .given .1) (c .join .ensures)
-
-returns-10 : tie.Need-returns-10
-returns-10 c = arm (c .before .before .before .before) _ _ (c .before .before .step7 .given .1) (c .take .ensures)
+returns-4 c = arm (c .before .before .before .before) _ _ (c .before .before .step .given .1) (c .at .ensures)
 
 pub step-spec : {M : Type 1} → statement M
 step-spec =
@@ -153,24 +99,6 @@ step-spec =
     enum-told
     main-requires
     enum-known-step
-    catch-requires
-    enum-known-step-2
-    send-requires
-    enum-known-step-3
-    written-requires
-    enum-known-step-4
-    ack-requires
-    enum-known-step-5
-    drop-requires
-    enum-known-step-6
-    join-requires
-    enum-known-step-7
-    take-requires
+    at-requires
     returns-3
-    returns-4
-    returns-5
-    returns-6
-    returns-7
-    returns-8
-    returns-9
-    returns-10)
+    returns-4)

@@ -9,11 +9,8 @@ new-requires c κs = search needs
 new-requires-2 : tie.Need-new-requires-2
 new-requires-2 c κs = search needs
 
-new-requires-3 : tie.Need-new-requires-3
-new-requires-3 c κs = search needs
-
 returns : tie.Need-returns
-returns c = rw (c .before .before .new .ensures, c .before .new2 .ensures, c .new3 .ensures)
+returns c = rw (c .before .new .ensures, c .new2 .ensures)
 
 pub around-spec : {M : Type 1} → statement M
-around-spec = tie.close (tie.spec new-requires new-requires-2 new-requires-3 returns)
+around-spec = tie.close (tie.spec new-requires new-requires-2 returns)
