@@ -1,7 +1,8 @@
--- What several crates say of lists and tests: ways to go by cases, a test of every item, membership and the last item, rising lists, and a
--- list written over another.
+-- What several crates say of lists and tests: ways to go by cases, a test of every item, membership and the last item, rising lists, a
+-- list written over another, and the first cells of a row.
 pub mod Cases
 pub mod All
 pub mod Elem
 pub mod Rising
 pub mod Over
+pub mod Cells
