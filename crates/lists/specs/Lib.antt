@@ -1,8 +1,9 @@
 -- What several crates say of lists and tests: ways to go by cases, a test of every item, membership and the last item, rising lists, a list
--- with one item replaced, and a list written over another.
+-- with one item replaced, a list written over another, and the first cells of a row.
 pub mod Cases
 pub mod All
 pub mod Elem
 pub mod Rising
 pub mod Set
 pub mod Over
+pub mod Cells

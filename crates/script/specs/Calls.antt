@@ -61,7 +61,8 @@ steps-as j s st x r is reply world = record {
 -- called
 
 -- an operation at a window keeps the number of windows
-operate-count : (ns : List ℕ) (w : ℕ) (f : WindowView → Turn) (p : PlayerView) → length (operate ns w f p .next .windows) ≡ length (p .windows)
+operate-count : (ns : List ℕ) (w : ℕ) (f : WindowView → Turn) (p : PlayerView) →
+    length (operate ns w f p .next .windows) ≡ length (p .windows)
 operate-count ns w f p =
     operate-cases ns w f p (λ o. length (o .next .windows) ≡ length (p .windows)) refl refl (λ s h. length-set (p .windows) w _)
 
@@ -87,7 +88,8 @@ module _ (ns : List ℕ) (s : Stage) (h : Staged s) (e : inShape ns ≡ true) wh
       (worldOf-called (entriesOf ns) s h (r .player) (o .next) (k .next) same)
 
   -- out of shape the index offered does not matter
-  mainRule-due : (i : ℕ) (p : PlayerView) → (p .current < 4294967295 → i ≡ p .current + 1) → mainRule ns i p ≡ mainRule ns (p .current + 1) p
+  mainRule-due : (i : ℕ) (p : PlayerView) → (p .current < 4294967295 → i ≡ p .current + 1) →
+      mainRule ns i p ≡ mainRule ns (p .current + 1) p
   unfolding mainRule
   mainRule-due i p due = go (shape ns p) refl
     where

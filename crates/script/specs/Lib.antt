@@ -1,5 +1,4 @@
 -- A script's stage as a world of `delivery`, and its steps as steps of that world.
-pub mod Cells
 pub mod Line
 pub mod Stage
 pub mod Promise

@@ -14,7 +14,7 @@ use Rattle.script.specs.declared.line.Ack.{Ack}
 use Rattle.script.specs.declared.line.Entries.{Entries}
 use Rattle.script.specs.declared.line.Acks.{Acks}
 use Rattle.script.specs.declared.line.Line.{Line}
-use Rattle.script.specs.Cells.{front, front-length, front-first}
+use Rattle.lists.specs.Cells.{front, front-length, front-first}
 
 -- ------------------------------------------------------------------------
 -- A line as a world has it

@@ -25,7 +25,7 @@ use Rattle.delivery.specs.World.{World, newSide, opened}
 use Rattle.delivery.specs.Statement.{firstStart}
 use Rattle.script.specs.declared.Stage.{Stage}
 use Rattle.script.specs.declared.Opened.{Opened}
-use Rattle.script.specs.Cells.{front}
+use Rattle.lists.specs.Cells.{front}
 use Rattle.script.specs.Line.{freshLine, sentIn, acksIn}
 use Rattle.script.specs.Stage.{sidesOf, worldOf}
 use Rattle.journal.specs.EntryLaws.{numbersOf-entriesOf}
@@ -41,7 +41,8 @@ noWorld j = record { journal = j; limit = 0; current = 0; sides = [] }
 -- opened it has no windows
 pub record Opens (ns : List ℕ) (count : ℕ) (r : Opened) : Type 0 where
   pub ok : (before : PlayerView) → r .ok ≡ eqb (startRule ns count 2 (replicate count 0) before .answer) 0
-  pub world : (before : PlayerView) → r .ok ≡ true → worldOf (entriesOf ns) (r .stage) ≡ opened (entriesOf ns) (firstStart before (entriesOf ns) count 2)
+  pub world : (before : PlayerView) → r .ok ≡ true →
+      worldOf (entriesOf ns) (r .stage) ≡ opened (entriesOf ns) (firstStart before (entriesOf ns) count 2)
   pub shut : r .ok ≡ false → worldOf (entriesOf ns) (r .stage) ≡ noWorld (entriesOf ns)
 
 -- ------------------------------------------------------------------------
@@ -58,7 +59,8 @@ sidesOf-new (suc n) (v ∷ vs) h = ap (λ ps. newSide v ∷ ps) (sidesOf-new n v
 -- startRule
 
 -- what the player held before is not read
-startRule-answer : (ns : List ℕ) (count limit : ℕ) (reports : List ℕ) (p q : PlayerView) → startRule ns count limit reports p .answer ≡ startRule ns count limit reports q .answer
+startRule-answer : (ns : List ℕ) (count limit : ℕ) (reports : List ℕ) (p q : PlayerView) →
+    startRule ns count limit reports p .answer ≡ startRule ns count limit reports q .answer
 unfolding startRule
 startRule-answer ns count limit reports p q =
     go (not (countFits count && (limitFits limit && (inShape ns && eqb (length reports) count)))) (not (areReports (entriesOf ns) 0 reports))
@@ -70,7 +72,8 @@ startRule-answer ns count limit reports p q =
     go false false = refl
 
 -- more windows than 16 are refused
-startRule-over : (ns : List ℕ) (count limit : ℕ) (reports : List ℕ) (p : PlayerView) → 16 < count → startRule ns count limit reports p ≡ refuse 1 p
+startRule-over : (ns : List ℕ) (count limit : ℕ) (reports : List ℕ) (p : PlayerView) → 16 < count →
+    startRule ns count limit reports p ≡ refuse 1 p
 unfolding startRule
 startRule-over ns count limit reports p h = go (leb 1 count)
   where
@@ -109,7 +112,8 @@ module _ (ns : List ℕ) (count : ℕ) where
     shut = λ e. shut-world (entriesOf ns) p b;
   }
 
-  pub opens-start : (p : Player) → playerOf p ≡ noPlayer → (r : Played) (reports : List ℕ) → count ≤ 16 → reports ≡ take {A = ℕ} count (replicate 16 0) →
+  pub opens-start : (p : Player) → playerOf p ≡ noPlayer → (r : Played) (reports : List ℕ) → count ≤ 16 →
+      reports ≡ take {A = ℕ} count (replicate 16 0) →
       Meets p r (startRule ns count 2 reports (playerOf p)) →
       Opens ns count (record { ok = eqb (numberOf (r .answer)) 0; stage = aroundPlayer (r .player) })
   unfolding worldOf opened

@@ -148,7 +148,8 @@ stepIn-scripted wd (At Join w) = refl
 stepIn-scripted wd (At Take w) = refl
 
 -- a side replaced
-placed-roomy : (wd : World) (v : ℕ) (p : Side) → v < length (wd .sides) → ((w : ℕ) → w < length (wd .sides) → RoomySide (sideAt w wd)) → RoomySide p →
+placed-roomy : (wd : World) (v : ℕ) (p : Side) → v < length (wd .sides) → ((w : ℕ) → w < length (wd .sides) → RoomySide (sideAt w wd)) →
+    RoomySide p →
     (w : ℕ) → w < length (withSide v p wd .sides) → RoomySide (sideAt w (withSide v p wd))
 placed-roomy wd v p l each r w h =
     ⊎-elim
@@ -184,7 +185,8 @@ module _ (wd : World) (s : W.Step) (is : scripted s ≡ true) (r : Roomy wd) whe
 -- ------------------------------------------------------------------------
 -- the batch limit
 
-calledThen-limit : (o : Outcome) (f : World → World) (wd : World) → ((x : World) → f x .limit ≡ x .limit) → calledThen o f wd .world .limit ≡ o .next .limit
+calledThen-limit : (o : Outcome) (f : World → World) (wd : World) → ((x : World) → f x .limit ≡ x .limit) →
+    calledThen o f wd .world .limit ≡ o .next .limit
 unfolding withPlayer
 calledThen-limit o f wd same = by (eqb (o .answer) 0)
   where
@@ -192,7 +194,8 @@ calledThen-limit o f wd same = by (eqb (o .answer) 0)
     by true = same (withPlayer (o .next) wd)
     by false = refl
 
-take-limit : (w : ℕ) (l : List Sent) (wd : World) (b : Bool) → cond b (takeAtLine w l wd) (W.stays (answered 2) wd) .world .limit ≡ wd .limit
+take-limit : (w : ℕ) (l : List Sent) (wd : World) (b : Bool) →
+    cond b (takeAtLine w l wd) (W.stays (answered 2) wd) .world .limit ≡ wd .limit
 take-limit w l wd false = refl
 take-limit w [] wd true = refl
 take-limit w (s ∷ l) wd true = refl
@@ -249,7 +252,8 @@ unfolding endsOf
 roomy-new v = record { pairs = none; batches = omega arith }
 
 -- the opening: a reachable world with the batch limit 2 and empty lines
-pub roomy-opened : (before : PlayerView) (j : List Entry) (count : ℕ) → firstStart before j count 2 .answer ≡ 0 → Roomy (opened j (firstStart before j count 2))
+pub roomy-opened : (before : PlayerView) (j : List Entry) (count : ℕ) → firstStart before j count 2 .answer ≡ 0 →
+    Roomy (opened j (firstStart before j count 2))
 unfolding opened
 roomy-opened before j count done = record {
   reached = opened-reached before j count 2 done;
@@ -260,5 +264,6 @@ roomy-opened before j count done = record {
 }
 
 -- in every world that a script reaches from there, each line has room
-pub room : (before : PlayerView) (j : List Entry) (count : ℕ) → firstStart before j count 2 .answer ≡ 0 → (ss : List Step) → Roomy (played (opened j (firstStart before j count 2)) ss)
+pub room : (before : PlayerView) (j : List Entry) (count : ℕ) → firstStart before j count 2 .answer ≡ 0 → (ss : List Step) →
+    Roomy (played (opened j (firstStart before j count 2)) ss)
 room before j count done ss = roomy-played (opened j (firstStart before j count 2)) ss (roomy-opened before j count done)

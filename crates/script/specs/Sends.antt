@@ -49,7 +49,8 @@ batchOf-length (suc k) v = by (readyIn (v .condition) v) (batchOf-length k)
     by (front x v′) few = omega (arith, few v′)
 
 -- a batch has what the queues have
-batchOf-every : (p : ℕ → Bool) (k : ℕ) (v : WindowView) → all p (v .normalQueue) ≡ true → all p (v .catchQueue) ≡ true → all p (batchOf k v .indices) ≡ true
+batchOf-every : (p : ℕ → Bool) (k : ℕ) (v : WindowView) → all p (v .normalQueue) ≡ true → all p (v .catchQueue) ≡ true →
+    all p (batchOf k v .indices) ≡ true
 unfolding all
 batchOf-every p k v a b = by (v .condition)
   where
@@ -91,7 +92,8 @@ sendOutput-onLine ns w p t z =
     let d = sendRule-done ns w 10 p z in
     let v = shaped ns p (d .shaped) .windows w (d .within) in
     rw (eq-eqb _ 0 z)
-    (batch-shown (entriesOf ns) (countOf ns) t (batchAt w p) (d .turn .some) (omega (arith, batchOf-length (p .limit) (windowAt w p), d .turn .room))
+    (batch-shown (entriesOf ns) (countOf ns) t (batchAt w p) (d .turn .some)
+    (omega (arith, batchOf-length (p .limit) (windowAt w p), d .turn .room))
     (batchOf-every (queuedIn (countOf ns)) (p .limit) (windowAt w p) (v .normalIn) (v .catchIn)))
 
 -- ------------------------------------------------------------------------

@@ -28,7 +28,7 @@ use Rattle.script.specs.declared.line.Ack as declared
 use Rattle.script.specs.declared.line.Line.{Line}
 use Rattle.script.specs.declared.Stage.{Stage}
 use Rattle.script.specs.declared.Reply.the-variants.{Answered, Empty}
-use Rattle.script.specs.Cells.{front}
+use Rattle.lists.specs.Cells.{front}
 use Rattle.script.specs.Line.{sentOf, ackOf, sentIn, acksIn, freshLine, AckedOff, sentIn-none, acksIn-none}
 use Rattle.script.specs.Stage.{sideOf, worldOf, forget, forgotten, stepIn, recordAt, lineAt}
 use Rattle.script.specs.Promise.{Steps}
@@ -69,7 +69,8 @@ module _ (j : List Entry) (s : Stage) (h : Staged s) where
 
   -- other lines, as the stage shows them
   pub lines-side : (w : ℕ) (v : WindowView) (l : Line) (a : List W.Sent) (b : List W.Ack) →
-      map sentOf (sentIn (l .entries)) ≡ a → map ackOf (acksIn (l .acks)) ≡ b → sideOf v (recordAt w s) l ≡ forget (withLines a b (withView v (sideAt w wd)))
+      map sentOf (sentIn (l .entries)) ≡ a → map ackOf (acksIn (l .acks)) ≡ b →
+      sideOf v (recordAt w s) l ≡ forget (withLines a b (withView v (sideAt w wd)))
   lines-side w v l a b is are =
       ap₂ (λ a b. record { view = v; record′ = recordAt w s; line = a; back = b; taken = [] }) is are
       ∙ ap (λ r. record { view = v; record′ = r; line = a; back = b; taken = [] }) (sym (record-here w))
@@ -78,7 +79,8 @@ module _ (j : List Entry) (s : Stage) (h : Staged s) where
   -- an empty line
 
   nothing-steps : (st : Step) (w : ℕ) →
-      W.step (stepIn wd st) wd ≡ cond (ltb w (length (wd .sides))) (W.stays W.empty wd) (W.stays (answered 2) wd) → Steps j s st (nothingAt w s)
+      W.step (stepIn wd st) wd ≡ cond (ltb w (length (wd .sides))) (W.stays W.empty wd) (W.stays (answered 2) wd) →
+      Steps j s st (nothingAt w s)
   nothing-steps st w is =
       by (ltb w (s .player .count)) (is ∙ ap (λ n. cond (ltb w n) (W.stays W.empty wd) (W.stays (answered 2) wd)) (worldOf-count j s))
     where
@@ -105,7 +107,8 @@ module _ (j : List Entry) (s : Stage) (h : Staged s) where
   -- settledBy
 
   -- refused, nothing changes; answered 0, the stage shows what the world's change gives
-  pub settled-steps : (st : Step) (w : ℕ) (r : Played) (o : Outcome) (l : Line) (g : Side → Side) → W.step (stepIn wd st) wd ≡ calledThen o (changed w g) wd →
+  pub settled-steps : (st : Step) (w : ℕ) (r : Played) (o : Outcome) (l : Line) (g : Side → Side) →
+      W.step (stepIn wd st) wd ≡ calledThen o (changed w g) wd →
       Meets (s .player) r o → (o .answer ≡ 0 → Turned j s w o g l) → Steps j s st (settledBy s r w l)
   settled-steps st w r o l g is k done = ⊎-elim yes no (eq-or-ne (o .answer) 0)
     where
@@ -136,12 +139,14 @@ module _ (ns : List ℕ) (s : Stage) (h : Staged s) (e : inShape ns ≡ true) (w
   abbrev player : PlayerView
   player = playerOf (s .player)
 
-  pub join-steps : Meets (s .player) r (joinRule ns w (recordAt w s .last .0) player) → Steps (entriesOf ns) s (At Join w) (settledBy s r w freshLine)
+  pub join-steps : Meets (s .player) r (joinRule ns w (recordAt w s .last .0) player) →
+      Steps (entriesOf ns) s (At Join w) (settledBy s r w freshLine)
   unfolding W.step sentIn acksIn front
   join-steps k =
       let last : ℕ = recordAt w s .last .0 in
       settled-steps (entriesOf ns) s h (At Join w) w r (joinRule ns w last player) freshLine cleared
-      (ap (λ x. calledThen (joinRule (numbersIn here) w (x .last .0) (playerIn here)) (changed w cleared) here) (record-here (entriesOf ns) s h w)
+      (ap (λ x. calledThen (joinRule (numbersIn here) w (x .last .0) (playerIn here)) (changed w cleared) here)
+      (record-here (entriesOf ns) s h w)
       ∙ ap (λ o. calledThen o (changed w cleared) here) (rule-here ns s h e (λ n p. joinRule n w last p)))
       k
       (λ z.
@@ -155,7 +160,8 @@ module _ (ns : List ℕ) (s : Stage) (h : Staged s) (e : inShape ns ≡ true) (w
 
   -- Ack with the front ack, and the line without it
   pub ack-steps : (x : declared.Ack) (rest : List declared.Ack) (l : Line) → w < s .player .count → acksIn (lineAt w s .acks) ≡ x ∷ rest →
-      Meets (s .player) r (ackRule ns w (x .term) (x .index .0) player) → AckedOff (lineAt w s) l → Steps (entriesOf ns) s (At Ack w) (settledBy s r w l)
+      Meets (s .player) r (ackRule ns w (x .term) (x .index .0) player) → AckedOff (lineAt w s) l →
+      Steps (entriesOf ns) s (At Ack w) (settledBy s r w l)
   unfolding W.step
   ack-steps x rest l within front k off =
       let j : List Entry = entriesOf ns in

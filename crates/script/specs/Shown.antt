@@ -28,7 +28,7 @@ use Rattle.script.specs.Promise.{Steps, Plays}
 use Rattle.script.specs.declared.line.Line.{Line}
 use Rattle.script.specs.Line.{sentOf, ackOf, sentIn, acksIn, sentIn-length, acksIn-length}
 use Rattle.script.specs.Sides.{forgotten-player, forgotten-side}
-use Rattle.script.specs.Worlds.{worldOf-count, worldOf-side}
+use Rattle.script.specs.Worlds.{worldOf-count, Staged, worldOf-side}
 use Rattle.script.specs.Room.{Roomy, roomy-line}
 
 -- ------------------------------------------------------------------------
@@ -80,18 +80,21 @@ side-alike w g h x same =
     ∙ sym (forgotten-side w (h (sideAt w x)) x)
 
 -- a call of the player, by its rule
-alike-called : (rule : PlayerView → Outcome) (wd : World) → Alike (called (rule (playerIn (forgotten wd))) (forgotten wd)) (called (rule (playerIn wd)) wd)
+alike-called : (rule : PlayerView → Outcome) (wd : World) →
+    Alike (called (rule (playerIn (forgotten wd))) (forgotten wd)) (called (rule (playerIn wd)) wd)
 alike-called rule wd =
     subst⁻¹ (λ p. Alike (called (rule p) (forgotten wd)) (called (rule (playerIn wd)) wd)) (forgotten-in wd)
     (record { reply = refl; world = player-alike (rule (playerIn wd) .next) wd })
 
-alike-then : (rule : PlayerView → Outcome) (f g : World → World) (wd : World) → ((x : World) → forgotten (f (forgotten x)) ≡ forgotten (g x)) →
+alike-then : (rule : PlayerView → Outcome) (f g : World → World) (wd : World) →
+    ((x : World) → forgotten (f (forgotten x)) ≡ forgotten (g x)) →
     Alike (calledThen (rule (playerIn (forgotten wd))) f (forgotten wd)) (calledThen (rule (playerIn wd)) g wd)
 alike-then rule f g wd same =
     subst⁻¹ (λ p. Alike (calledThen (rule p) f (forgotten wd)) (calledThen (rule (playerIn wd)) g wd)) (forgotten-in wd)
     (record { reply = refl; world = by (eqb (rule (playerIn wd) .answer) 0) })
   where
-    by : (b : Bool) → forgotten (cond b (f (withPlayer (rule (playerIn wd) .next) (forgotten wd))) (withPlayer (rule (playerIn wd) .next) (forgotten wd)))
+    by : (b : Bool) →
+        forgotten (cond b (f (withPlayer (rule (playerIn wd) .next) (forgotten wd))) (withPlayer (rule (playerIn wd) .next) (forgotten wd)))
         ≡ forgotten (cond b (g (withPlayer (rule (playerIn wd) .next) wd)) (withPlayer (rule (playerIn wd) .next) wd))
     by true =
         ap (λ x. forgotten (f x)) (sym (forgotten-player (rule (playerIn wd) .next) wd)) ∙ same (withPlayer (rule (playerIn wd) .next) wd)
@@ -189,7 +192,8 @@ module _ (j : List Entry) (s : Stage) (wd : World) (shows : worldOf j s ≡ forg
     shown-lines : (w : ℕ) → (lineAt w s .entries .len ≡ length (sideAt w wd .line)) × (lineAt w s .acks .len ≡ length (sideAt w wd .back))
     shown-lines w =
         let l : Line = lineAt w s in
-        let same = sym (worldOf-side j s (record { few = shown-few; records = records; lines = lines }) w) ∙ ap (sideAt w) shows ∙ forgotten-at w wd in (
+        let held : Staged s = record { few = shown-few; records = records; lines = lines } in
+        let same = sym (worldOf-side j s held w) ∙ ap (sideAt w) shows ∙ forgotten-at w wd in (
           sym (sentIn-length (l .entries)) ∙ sym (length-map (sentIn (l .entries)) sentOf) ∙ ap (λ p. length (p .line)) same,
           sym (acksIn-length (l .acks)) ∙ sym (length-map (acksIn (l .acks)) ackOf) ∙ ap (λ p. length (p .back)) same,
         )
@@ -204,7 +208,8 @@ module _ (j : List Entry) (s : Stage) (wd : World) (shows : worldOf j s ≡ forg
         (le-leb (lineAt w s .acks .len) 8 (omega (arith, sizes .1, room .1))))
 
 -- so a stage that shows a world with room plays every step as that world does
-pub shown-plays : (ns : List ℕ) (s : Stage) (wd : World) (st : Step) (r : Stepped) → inShape ns ≡ true → worldOf (entriesOf ns) s ≡ forgotten wd → Roomy wd →
+pub shown-plays : (ns : List ℕ) (s : Stage) (wd : World) (st : Step) (r : Stepped) → inShape ns ≡ true →
+    worldOf (entriesOf ns) s ≡ forgotten wd → Roomy wd →
     length (s .records) ≡ 16 → length (s .lines) ≡ 16 → Plays ns s st r →
     (replyOf (r .reply) ≡ W.step (stepIn wd st) wd .reply) × (worldOf (entriesOf ns) (r .stage) ≡ forgotten (W.step (stepIn wd st) wd .world))
 shown-plays ns s wd st r e shows roomy records lines k =

@@ -38,7 +38,8 @@ sidesOf-views (v ∷ vs) [] ls a b = absurd (omega arith)
 sidesOf-views (v ∷ vs) (r ∷ rs) [] a b = absurd (omega arith)
 sidesOf-views (v ∷ vs) (r ∷ rs) (l ∷ ls) a b = ap (λ us. v ∷ us) (sidesOf-views vs rs ls (omega arith) (omega arith))
 
-pub sidesOf-at : (vs : List WindowView) (rs : List Record) (ls : List Line) (w : ℕ) → w < length vs → length vs ≤ length rs → length vs ≤ length ls →
+pub sidesOf-at : (vs : List WindowView) (rs : List Record) (ls : List Line) (w : ℕ) → w < length vs → length vs ≤ length rs →
+    length vs ≤ length ls →
     getD (sidesOf vs rs ls) w noSide ≡ sideOf (getD vs w noWindow) (getD rs w newRecord) (getD ls w freshLine)
 unfolding sidesOf
 sidesOf-at [] rs ls w h a b = absurd (omega arith)
@@ -54,16 +55,19 @@ sidesOf-set [] rs ls w v r l a b = refl
 sidesOf-set (u ∷ vs) [] ls w v r l a b = absurd (omega arith)
 sidesOf-set (u ∷ vs) (x ∷ rs) [] w v r l a b = absurd (omega arith)
 sidesOf-set (u ∷ vs) (x ∷ rs) (y ∷ ls) zero v r l a b = refl
-sidesOf-set (u ∷ vs) (x ∷ rs) (y ∷ ls) (suc w) v r l a b = ap (λ ps. sideOf u x y ∷ ps) (sidesOf-set vs rs ls w v r l (omega arith) (omega arith))
+sidesOf-set (u ∷ vs) (x ∷ rs) (y ∷ ls) (suc w) v r l a b =
+    ap (λ ps. sideOf u x y ∷ ps) (sidesOf-set vs rs ls w v r l (omega arith) (omega arith))
 
-pub sidesOf-with : (us vs : List WindowView) (rs : List Record) (ls : List Line) → length us ≡ length vs → length vs ≤ length rs → length vs ≤ length ls →
+pub sidesOf-with : (us vs : List WindowView) (rs : List Record) (ls : List Line) → length us ≡ length vs → length vs ≤ length rs →
+    length vs ≤ length ls →
     sidesOf us rs ls ≡ withViews us (sidesOf vs rs ls)
 unfolding sidesOf withViews
 sidesOf-with [] vs rs ls e a b = refl
 sidesOf-with (u ∷ us) [] rs ls e a b = absurd (omega arith)
 sidesOf-with (u ∷ us) (v ∷ vs) [] ls e a b = absurd (omega arith)
 sidesOf-with (u ∷ us) (v ∷ vs) (r ∷ rs) [] e a b = absurd (omega arith)
-sidesOf-with (u ∷ us) (v ∷ vs) (r ∷ rs) (l ∷ ls) e a b = ap (λ ps. sideOf u r l ∷ ps) (sidesOf-with us vs rs ls (omega arith) (omega arith) (omega arith))
+sidesOf-with (u ∷ us) (v ∷ vs) (r ∷ rs) (l ∷ ls) e a b =
+    ap (λ ps. sideOf u r l ∷ ps) (sidesOf-with us vs rs ls (omega arith) (omega arith) (omega arith))
 
 -- ------------------------------------------------------------------------
 -- forgotten

@@ -57,8 +57,10 @@ sideOf-taken v own l l′ x rest r front o off =
       taken = [];
     }) o
 
-pub take-steps : (j : List Entry) (s : Stage) → Staged s → (w : ℕ) (x : Sent) (rest : List Sent) (r : Taken) (l : Line) → w < s .player .count →
-    sentIn (lineAt w s .entries) ≡ x ∷ rest → outcomeOf r ≡ takeNumbers (fiveOf (placedOf (x .numbers))) (recordAt w s) → TakenOff (lineAt w s) x l →
+pub take-steps : (j : List Entry) (s : Stage) → Staged s → (w : ℕ) (x : Sent) (rest : List Sent) (r : Taken) (l : Line) →
+    w < s .player .count →
+    sentIn (lineAt w s .entries) ≡ x ∷ rest → outcomeOf r ≡ takeNumbers (fiveOf (placedOf (x .numbers))) (recordAt w s) →
+    TakenOff (lineAt w s) x l →
     Steps j s (At Take w) (tookBy s r w l)
 unfolding W.step
 take-steps j s h w x rest r l within front o off =

@@ -25,7 +25,7 @@ use Rattle.delivery.specs.World.{Side, World, noSide, sideAt, numbersIn, player
 use Rattle.delivery.specs.Worlds.{withPlayer-window, withSide-here, withSide-twice}
 use Rattle.script.specs.declared.line.Line.{Line}
 use Rattle.script.specs.declared.Stage.{Stage}
-use Rattle.script.specs.Cells.{front}
+use Rattle.lists.specs.Cells.{front}
 use Rattle.script.specs.Line.{sentIn, acksIn, freshLine}
 use Rattle.script.specs.Stage.{sideOf, sidesOf, worldOf, forget, forgotten, recordAt, lineAt}
 use Rattle.script.specs.Sides.{sidesOf-length, sidesOf-forget, sidesOf-views, sidesOf-at, sidesOf-set, sidesOf-with, forgotten-player, forgotten-side}
@@ -42,7 +42,8 @@ playerOf-count p = firstWindows-length (p .count) (p .windows)
 pub windowAt-none : (p : Player) (w : ℕ) → p .count ≤ w → windowAt w (playerOf p) ≡ noWindow
 windowAt-none p w h = List·getD-eq-default (playerOf p .windows) noWindow {n = w} (rw playerOf-count h)
 
-pub windowAt-here : (p : Player) (w : ℕ) (d : Window) → w < p .count → p .count ≤ length (p .windows) → windowAt w (playerOf p) ≡ viewOf (getD (p .windows) w d)
+pub windowAt-here : (p : Player) (w : ℕ) (d : Window) → w < p .count → p .count ≤ length (p .windows) →
+    windowAt w (playerOf p) ≡ viewOf (getD (p .windows) w d)
 unfolding playerOf
 windowAt-here p w d l h = firstWindows-at (p .count) (p .windows) w noWindow d l h
 
@@ -54,7 +55,8 @@ abbrev pub changed : ℕ → (Side → Side) → World → World
 changed w g wd = withSide w (g (sideAt w wd)) wd
 
 -- a turn of window w, and then a change of its side
-pub changed-turn : (w : ℕ) (g : Side → Side) (v : WindowView) (q : PlayerView) (wd : World) → w < length (wd .sides) → q ≡ withWindow w v (playerIn wd) →
+pub changed-turn : (w : ℕ) (g : Side → Side) (v : WindowView) (q : PlayerView) (wd : World) → w < length (wd .sides) →
+    q ≡ withWindow w v (playerIn wd) →
     changed w g (withPlayer q wd) ≡ withSide w (g (withView v (sideAt w wd))) wd
 changed-turn w g v q wd l e =
     let turned : Side = withView v (sideAt w wd) in
@@ -74,14 +76,16 @@ pub worldOf-forgotten : (j : List Entry) (s : Stage) → forgotten (worldOf j s)
 unfolding worldOf forgotten
 worldOf-forgotten j s =
     let q : PlayerView = playerOf (s .player) in
-    ap (λ ps. record { journal = j; limit = q .limit; current = q .current; sides = ps }) (sidesOf-forget (q .windows) (s .records) (s .lines))
+    ap (λ ps. record { journal = j; limit = q .limit; current = q .current; sides = ps })
+    (sidesOf-forget (q .windows) (s .records) (s .lines))
 
 pub worldOf-count : (j : List Entry) (s : Stage) → length (worldOf j s .sides) ≡ s .player .count
 unfolding worldOf
 worldOf-count j s = sidesOf-length (playerOf (s .player) .windows) (s .records) (s .lines) ∙ playerOf-count (s .player)
 
 -- a side of the world replaced is replaced by one without history
-pub worldOf-forgets : (j : List Entry) (s : Stage) (w : ℕ) (p : Side) → forgotten (withSide w p (worldOf j s)) ≡ withSide w (forget p) (worldOf j s)
+pub worldOf-forgets : (j : List Entry) (s : Stage) (w : ℕ) (p : Side) →
+    forgotten (withSide w p (worldOf j s)) ≡ withSide w (forget p) (worldOf j s)
 worldOf-forgets j s w p = forgotten-side w p (worldOf j s) ∙ ap (withSide w (forget p)) (worldOf-forgotten j s)
 
 -- a stage that code holds, with at most 16 windows
@@ -101,7 +105,8 @@ module _ (j : List Entry) (s : Stage) (h : Staged s) where
   unfolding worldOf
   worldOf-player =
       let q : PlayerView = playerOf (s .player) in
-      ap (λ vs. record { limit = q .limit; current = q .current; windows = vs }) (sidesOf-views (q .windows) (s .records) (s .lines) records-few lines-few)
+      ap (λ vs. record { limit = q .limit; current = q .current; windows = vs })
+      (sidesOf-views (q .windows) (s .records) (s .lines) records-few lines-few)
 
   -- a window's side: what the player holds for it, its record and its line
   pub worldOf-side : (w : ℕ) → sideAt w (worldOf j s) ≡ sideOf (windowAt w (playerOf (s .player))) (recordAt w s) (lineAt w s)
@@ -109,9 +114,11 @@ module _ (j : List Entry) (s : Stage) (h : Staged s) where
   worldOf-side w = by (ltb w (s .player .count)) refl
     where
       by : (b : Bool) → ltb w (s .player .count) ≡ b → sideAt w (worldOf j s)
-          ≡ sideOf (windowAt w (playerOf (s .player))) (cond b (getD (s .records) w newRecord) newRecord) (cond b (getD (s .lines) w freshLine) freshLine)
+          ≡ sideOf (windowAt w (playerOf (s .player))) (cond b (getD (s .records) w newRecord) newRecord)
+          (cond b (getD (s .lines) w freshLine) freshLine)
       by true e =
-          sidesOf-at (playerOf (s .player) .windows) (s .records) (s .lines) w (omega (arith, playerOf-count (s .player), ltb-true w (s .player .count) e)) records-few lines-few
+          sidesOf-at (playerOf (s .player) .windows) (s .records) (s .lines) w
+          (omega (arith, playerOf-count (s .player), ltb-true w (s .player .count) e)) records-few lines-few
       by false e =
           List·getD-eq-default (worldOf j s .sides) noSide {n = w} (rw (worldOf-count j s) (ltb-false _ _ e))
           ∙ ap (λ v. sideOf v newRecord freshLine) (sym (windowAt-none (s .player) w (ltb-false _ _ e)))
@@ -133,12 +140,14 @@ module _ (j : List Entry) (s : Stage) (h : Staged s) where
     unfolding worldOf
     worldOf-placed p v r l e =
         let q : PlayerView = playerOf (s .player) in
-        ap (λ q. record { journal = j; limit = q .limit; current = q .current; sides = sidesOf (q .windows) (set (s .records) w r) (set (s .lines) w l) }) e
+        let sides : List WindowView → List Side = λ vs. sidesOf vs (set (s .records) w r) (set (s .lines) w l) in
+        ap (λ q. record { journal = j; limit = q .limit; current = q .current; sides = sides (q .windows) }) e
         ∙ ap (λ ps. record { journal = j; limit = q .limit; current = q .current; sides = ps })
         (sidesOf-set (q .windows) (s .records) (s .lines) w v r l records-few lines-few)
 
     -- a turn of window w and another line for it, where the world changes the window's side so after that turn
-    pub worldOf-turned : (p : Player) (q : PlayerView) (v : WindowView) (l : Line) (g : Side → Side) → w < s .player .count → playerOf p ≡ q →
+    pub worldOf-turned : (p : Player) (q : PlayerView) (v : WindowView) (l : Line) (g : Side → Side) → w < s .player .count →
+        playerOf p ≡ q →
         q ≡ withWindow w v (playerOf (s .player)) → sideOf v (recordAt w s) l ≡ forget (g (withView v (sideAt w (worldOf j s)))) →
         worldOf j (record { player = p; records = s .records; lines = set (s .lines) w l }) ≡ forgotten (changed w g (withPlayer q (worldOf j s)))
     worldOf-turned p q v l g here is turn same =

@@ -89,7 +89,8 @@ pub numberAfter-accepts : (word : List ℕ) (bound : ℕ) (line : List ℕ) (n n
 unfolding numberAfter
 numberAfter-accepts word bound line n next e = by (same (take (length word) line) word) refl (readAt bound line (length word)) refl
   where
-    by : (b : Bool) → same (take (length word) line) word ≡ b → (f : Numeral) → readAt bound line (length word) ≡ f → Holds word bound line n
+    by : (b : Bool) → same (take (length word) line) word ≡ b → (f : Numeral) → readAt bound line (length word) ≡ f →
+        Holds word bound line n
     by true p (Number m k) r = at-end (eqb k (length line)) refl
       where
         at-end : (b : Bool) → eqb k (length line) ≡ b → Holds word bound line n

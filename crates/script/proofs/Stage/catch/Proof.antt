@@ -20,8 +20,9 @@ called-requires c κs = search needs
 returns : tie.Need-returns
 returns c =
     let start = c .before .before .before .before .before .before in
+    let held = staged _ _ (start .good .0) (start .pre .room .few) in
     rw (c .called .ensures)
-    (catch-steps _ _ (staged _ _ (start .good .0) (start .pre .room .few)) (start .pre .journal) _ _ _ _ (c .before .before .before .term-at .ensures)
+    (catch-steps _ _ held (start .pre .journal) _ _ _ _ (c .before .before .before .term-at .ensures)
     (c .before .before .due-at .ensures) (c .before .catch-on .ensures))
 
 pub catch-spec : {M : Type 1} → statement M

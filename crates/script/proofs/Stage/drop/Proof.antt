@@ -14,7 +14,9 @@ called-requires c κs = search needs
 returns : tie.Need-returns
 returns c =
     let start = c .before .before .before .before in
-    rw (c .called .ensures) (drop-steps _ _ (staged _ _ (start .good .0) (start .pre .room .few)) (start .pre .journal) _ _ (c .before .drop-on .ensures))
+    let held = staged _ _ (start .good .0) (start .pre .room .few) in
+    rw (c .called .ensures)
+    (drop-steps _ _ held (start .pre .journal) _ _ (c .before .drop-on .ensures))
 
 pub drop-spec : {M : Type 1} → statement M
 drop-spec = tie.close (tie.spec drop-on-requires called-requires returns)

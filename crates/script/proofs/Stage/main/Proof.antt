@@ -17,8 +17,9 @@ called-requires c κs = search needs
 returns : tie.Need-returns
 returns c =
     let start = c .before .before .before .before .before in
+    let held = staged _ _ (start .good .0) (start .pre .room .few) in
     rw (c .called .ensures)
-    (main-steps _ _ (staged _ _ (start .good .0) (start .pre .room .few)) (start .pre .journal) _ _ (c .before .before .after .ensures) (c .before .main-on .ensures))
+    (main-steps _ _ held (start .pre .journal) _ _ (c .before .before .after .ensures) (c .before .main-on .ensures))
 
 pub main-spec : {M : Type 1} → statement M
 main-spec = tie.close (tie.spec after-requires main-on-requires called-requires returns)

@@ -30,7 +30,11 @@ around-requires-2 : tie.Need-around-requires-2
 around-requires-2 c κs = search needs
 
 returns-2 : tie.Need-returns-2
-returns-2 c = rw (c .around2 .ensures, c .before .number .ensures) (opens-start _ _ _ (c .before .before .before .before .before .before .blank .ensures) _ _ (c .before .before .before .before .before .if1 .left) refl (c .before .before .before .start-on .ensures))
+returns-2 c =
+    let called = c .before .before .before in
+    let below = called .before .before in
+    rw (c .around2 .ensures, c .before .number .ensures)
+    (opens-start _ _ _ (below .before .blank .ensures) _ _ (below .if1 .left) refl (called .start-on .ensures))
 
 pub open-spec : {M : Type 1} → statement M
 open-spec =

@@ -35,4 +35,13 @@ returns c =
     (called .send-on .ensures .1) (term .term-at .ensures) (rw (term .before .line-at .ensures) at (c .before .loaded .ensures)))
 
 pub send-spec : {M : Type 1} → statement M
-send-spec = tie.close (tie.spec line-at-requires term-at-requires slice-aggregate-send-on send-on-requires loaded-requires settled-requires returns)
+send-spec =
+    tie.close
+    (tie.spec
+    line-at-requires
+    term-at-requires
+    slice-aggregate-send-on
+    send-on-requires
+    loaded-requires
+    settled-requires
+    returns)

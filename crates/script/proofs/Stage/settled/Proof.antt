@@ -23,7 +23,8 @@ called-requires-2 c κs = search needs
 returns-2 : tie.Need-returns-2
 returns-2 c =
     let stored = c .before in
-    rw (c .called2 .ensures, stored .with-line .ensures, eq-eqb _ 0 (sym (stored .before .before .number .ensures) ∙ stored .before .if1 .left))
+    let test = stored .before in
+    rw (c .called2 .ensures, stored .with-line .ensures, eq-eqb _ 0 (sym (test .before .number .ensures) ∙ test .if1 .left))
 
 pub settled-spec : {M : Type 1} → statement M
 settled-spec = tie.close (tie.spec number-requires called-requires returns with-line-requires called-requires-2 returns-2)

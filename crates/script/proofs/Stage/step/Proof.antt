@@ -17,7 +17,9 @@ use Rattle.script.proofs.Stage.step.Tie as tie
 room : (c : tie.After-has-room) →
     let start = c .before .before .before .before .before in
     roomAt (start .args .self) (windowOf (start .args .step)) ≡ c .has-room .result
-room c = ap (roomAt (c .before .before .before .before .before .args .self)) (sym (c .before .window-of .ensures)) ∙ sym (c .has-room .ensures)
+room c =
+    let start = c .before .before .before .before .before in
+    ap (roomAt (start .args .self)) (sym (c .before .window-of .ensures)) ∙ sym (c .has-room .ensures)
 
 -- past both tests the step is played
 held : (c : tie.Else2) →
@@ -61,13 +63,12 @@ has-room-requires : tie.Need-has-room-requires
 has-room-requires c κs = search needs
 
 returns-2 : tie.Need-returns-2
-returns-2 c = record {
-  played = λ h.
-      absurd
-      (true≢false
-      (sym (and-right (inShape (c .before .before .before .before .before .before .args .journal .now)) _ h) ∙ room (c .before) ∙ not-true _ (c .if2 .taken)));
-  stuck = λ h. refl;
-}
+returns-2 c =
+    let start = c .before .before .before .before .before .before in
+    record {
+      played = λ h. absurd (true≢false (sym (and-right (inShape (start .args .journal .now)) _ h) ∙ room (c .before) ∙ not-true _ (c .if2 .taken)));
+      stuck = λ h. refl;
+    }
 
 enum-told : tie.Need-enum-told
 enum-told c = search needs

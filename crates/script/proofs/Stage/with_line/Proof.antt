@@ -9,9 +9,9 @@ use Rattle.script.proofs.Stage.with_line.Tie as tie
 
 returns : tie.Need-returns
 returns c =
-    let start = c .before in
-    let long = lines-length (start .args .self) _ (start .good .0) in
-    ap (λ xs. record { player = start .args .self .player; records = start .args .self .records; lines = xs }) (sym (set-out (start .args .self .lines) _ _ (omega (arith, c .if1 .taken))))
+    let s = c .before .args .self in
+    let long = lines-length s _ (c .before .good .0) in
+    ap (λ xs. record { player = s .player; records = s .records; lines = xs }) (sym (set-out (s .lines) _ _ (omega (arith, c .if1 .taken))))
 
 mul-line : tie.Need-mul-line
 mul-line c = search needs

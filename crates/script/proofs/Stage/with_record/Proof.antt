@@ -9,9 +9,9 @@ use Rattle.script.proofs.Stage.with_record.Tie as tie
 
 returns : tie.Need-returns
 returns c =
-    let start = c .before in
-    let long = records-length (start .args .self) _ (start .good .0) in
-    ap (λ xs. record { player = start .args .self .player; records = xs; lines = start .args .self .lines }) (sym (set-out (start .args .self .records) _ _ (omega (arith, c .if1 .taken))))
+    let s = c .before .args .self in
+    let long = records-length s _ (c .before .good .0) in
+    ap (λ xs. record { player = s .player; records = xs; lines = s .lines }) (sym (set-out (s .records) _ _ (omega (arith, c .if1 .taken))))
 
 mul-record : tie.Need-mul-record
 mul-record c = search needs

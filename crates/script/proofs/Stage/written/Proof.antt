@@ -17,8 +17,10 @@ called-requires c κs = search needs
 returns : tie.Need-returns
 returns c =
     let start = c .before .before .before .before .before in
+    let held = staged _ _ (start .good .0) (start .pre .room .few) in
     rw (c .called .ensures)
-    (written-steps _ _ (staged _ _ (start .good .0) (start .pre .room .few)) (start .pre .journal) _ _ _ (c .before .before .term-at .ensures) (c .before .written-on .ensures))
+    (written-steps _ _ held (start .pre .journal) _ _ _ (c .before .before .term-at .ensures)
+    (c .before .written-on .ensures))
 
 pub written-spec : {M : Type 1} → statement M
 written-spec = tie.close (tie.spec term-at-requires written-on-requires called-requires returns)

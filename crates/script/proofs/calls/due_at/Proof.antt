@@ -26,7 +26,8 @@ unfolding viewOf
 returns-2 c =
     let start = c .before .before .before .before .before .before in
     let long = windows-length (start .args .player) _ (start .good .0) in
-    c .due-in .ensures ∙ sym (ap (λ v. dueIn (v .condition)) (windowAt-here (start .args .player) _ _ (c .before .before .before .before .if1 .left) (omega arith)))
+    c .due-in .ensures
+    ∙ sym (ap (λ v. dueIn (v .condition)) (windowAt-here (start .args .player) _ _ (c .before .before .before .before .if1 .left) (omega arith)))
 
 pub due-at-spec : {M : Type 1} → statement M
 due-at-spec =

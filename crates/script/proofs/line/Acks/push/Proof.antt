@@ -1,6 +1,6 @@
 -- A store at the length, with a length one more, puts the ack at the end.
 use native.Mathlib.Omega.{arith}
-use Rattle.script.specs.Cells.{front-push}
+use Rattle.lists.specs.Cells.{front-push}
 use Rattle.script.specs.Line.{noAck, acksIn}
 use Rattle.script.proofs.Sixteen.{acks-length}
 use borrow.Author.Needs.{needs}

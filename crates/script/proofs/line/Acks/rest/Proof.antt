@@ -5,7 +5,7 @@ use native.Mathlib.Numerals.{add-one}
 use native.Mathlib.Omega.{arith}
 use mathlib.Core.Path.{_≡_, refl, sym, ap, _∙_}
 use lib.ListN.{length}
-use Rattle.script.specs.Cells.{moved, moved-getD, moved-turn, front-moved}
+use Rattle.lists.specs.Cells.{moved, moved-getD, moved-turn, front-moved}
 use Rattle.script.specs.Line.{noAck, acksIn, acksIn-none}
 use Rattle.script.proofs.Sixteen.{acks-length}
 use borrow.Author.Needs.{needs}
@@ -68,7 +68,8 @@ returns-2 c =
     let start = ended .before .before .before in
     let long = acks-length (start .args .self) _ (start .good .0) in
     rw (ended .loop .inv .2)
-    (front-moved noAck _ (ended .loop .at) _ (pos-of-ne-zero (ended .before .before .if1 .left)) (omega (arith, start .pre)) (omega (arith, c .loop-test)))
+    (front-moved noAck _ (ended .loop .at) _ (pos-of-ne-zero (ended .before .before .if1 .left))
+    (omega (arith, start .pre)) (omega (arith, c .loop-test)))
 
 pub rest-spec : {M : Type 1} → statement M
 rest-spec =

@@ -1,7 +1,7 @@
 -- A store at the length, with a length one more, puts the entry at the end.
 use mathlib.Core.Path.{refl}
 use native.Mathlib.Omega.{arith}
-use Rattle.script.specs.Cells.{front-push}
+use Rattle.lists.specs.Cells.{front-push}
 use Rattle.script.specs.Line.{noSent, sentIn}
 use Rattle.script.proofs.Sixteen.{entries-length}
 use borrow.Author.Needs.{needs}

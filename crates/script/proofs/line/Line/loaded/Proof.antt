@@ -53,4 +53,16 @@ returns-2 c =
     }
 
 pub loaded-spec : {M : Type 1} → statement M
-loaded-spec = tie.close (tie.spec slice-aggregate-five-at five-at-requires array-read-if1 push-requires returns slice-aggregate-five-at-2 five-at-requires-2 push-requires-2 push-requires-3 returns-2)
+loaded-spec =
+    tie.close
+    (tie.spec
+    slice-aggregate-five-at
+    five-at-requires
+    array-read-if1
+    push-requires
+    returns
+    slice-aggregate-five-at-2
+    five-at-requires-2
+    push-requires-2
+    push-requires-3
+    returns-2)

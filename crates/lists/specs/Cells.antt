@@ -23,7 +23,8 @@ front-length d zero cells = refl
 front-length d (suc n) [] = ap suc (front-length d n [])
 front-length d (suc n) (c ∷ cells) = ap suc (front-length d n cells)
 
-front-suc : {A : Type 0} (d : A) (n : ℕ) (cells : List A) (x : A) → n < length cells → front d (suc n) (set cells n x) ≡ front d n cells ++ (x ∷ [])
+front-suc : {A : Type 0} (d : A) (n : ℕ) (cells : List A) (x : A) → n < length cells →
+    front d (suc n) (set cells n x) ≡ front d n cells ++ (x ∷ [])
 unfolding front
 front-suc d zero [] x h = absurd (omega arith)
 front-suc d zero (c ∷ cells) x h = refl
@@ -31,7 +32,8 @@ front-suc d (suc n) [] x h = absurd (omega arith)
 front-suc d (suc n) (c ∷ cells) x h = ap (λ l. c ∷ l) (front-suc d n cells x (omega arith))
 
 -- one cell more
-pub front-push : {A : Type 0} (d : A) (n : ℕ) (cells : List A) (x : A) → n < length cells → front d (n + 1) (set cells n x) ≡ front d n cells ++ (x ∷ [])
+pub front-push : {A : Type 0} (d : A) (n : ℕ) (cells : List A) (x : A) → n < length cells →
+    front d (n + 1) (set cells n x) ≡ front d n cells ++ (x ∷ [])
 front-push d n cells x h = rw add-one (front-suc d n cells x h)
 
 -- the first cell, and those after it
