@@ -4,25 +4,20 @@ use mathlib.Core.List.{List, [], _∷_, _++_}
 use mathlib.Core.Bool.{Bool, true, cond, _&&_}
 use lib.ListN.{length, drop, replicate}
 use lib.Dec.{leb, ltb, eqb}
+use Rattle.lists.specs.Cells.{front}
 use Rattle.queue.specs.declared.Queue.{Queue}
 use Rattle.queue.specs.declared.Batches.{Batches}
 use Rattle.queue.specs.declared.Found.{Found}
 use Rattle.queue.specs.declared.Found.the-variants.{At, Nothing}
 
--- the first n cells, and zeros where there are no more cells: so the list is as long as the length says, whatever it says
-unfoldable pub front : ℕ → List ℕ → List ℕ
-front zero cells = []
-front (suc n) [] = 0 ∷ front n []
-front (suc n) (c ∷ cells) = c ∷ front n cells
-
--- the items of a queue, and of the unacknowledged batches
+-- the items of a queue, and of the unacknowledged batches: as many as the length says, whatever it says, with zeros where there is no cell
 unfoldable pub itemsOf : Queue → List ℕ
 unfolding front
-itemsOf q = front (q .len) (q .cells)
+itemsOf q = front 0 (q .len) (q .cells)
 
 unfoldable pub batchesOf : Batches → List ℕ
 unfolding front
-batchesOf b = front (b .len) (b .cells)
+batchesOf b = front 0 (b .len) (b .cells)
 
 -- a fresh queue: 128 zeros and a length of 0
 abbrev pub freshQueue : Queue

@@ -11,38 +11,26 @@ use lib.Seq.{drop-cons, drop-nil}
 use lib.Dec.{leb, eqb, leb·zero}
 use borrow.Author.Tests.{lt-ltb, le-ltb, le-leb, lt-leb, eqb-true, eqb-false}
 use Rattle.queue.specs.declared.Found.the-variants.{At}
-use Rattle.queue.specs.Items.{front, itemsOf, batchesOf, freshQueue, freshBatches, pushed, skipped, findFrom}
+use Rattle.queue.specs.Items.{itemsOf, batchesOf, freshQueue, freshBatches, pushed, skipped, findFrom}
+use Rattle.lists.specs.Cells.{front, front-length, front-push}
 use Rattle.lists.specs.All.{all, between, heldIn}
 
 -- front
 
-pub front-length : (n : ℕ) (cells : List ℕ) → length (front n cells) ≡ n
-unfolding front
-front-length zero cells = refl
-front-length (suc n) [] = ap suc (front-length n [])
-front-length (suc n) (c ∷ cells) = ap suc (front-length n cells)
-
-pub front-take : (n : ℕ) (cells : List ℕ) → n ≤ length cells → front n cells ≡ take n cells
+pub front-take : (n : ℕ) (cells : List ℕ) → n ≤ length cells → front 0 n cells ≡ take n cells
 unfolding front
 front-take zero cells h = refl
 front-take (suc n) [] h = absurd (not-suc-le-zero h)
 front-take (suc n) (c ∷ cells) h = ap (λ (t : List ℕ). c ∷ t) (front-take n cells (le-of-suc-le-suc h))
 
-pub front-push : (n : ℕ) (cells : List ℕ) (x : ℕ) → n < length cells → front (suc n) (set cells n x) ≡ front n cells ++ (x ∷ [])
-unfolding front
-front-push zero [] x h = absurd (not-suc-le-zero h)
-front-push zero (c ∷ cells) x h = refl
-front-push (suc n) [] x h = absurd (not-suc-le-zero h)
-front-push (suc n) (c ∷ cells) x h = ap (λ (t : List ℕ). c ∷ t) (front-push n cells x (le-of-suc-le-suc h))
-
-pub front-drop : (n : ℕ) (cells : List ℕ) (k : ℕ) → drop k (front n cells) ≡ front (n - k) (drop k cells)
+pub front-drop : (n : ℕ) (cells : List ℕ) (k : ℕ) → drop k (front 0 n cells) ≡ front 0 (n - k) (drop k cells)
 unfolding front
 front-drop n cells zero = rw sub-zero
 front-drop zero cells (suc k) = rw zero-sub
 front-drop (suc n) [] (suc k) = rw suc-sub-suc (rw drop-nil at (front-drop n [] k))
 front-drop (suc n) (c ∷ cells) (suc k) = rw suc-sub-suc (front-drop n cells k)
 
-pub front-getD : (n : ℕ) (cells : List ℕ) (k : ℕ) → k < n → getD (front n cells) k 0 ≡ getD cells k 0
+pub front-getD : (n : ℕ) (cells : List ℕ) (k : ℕ) → k < n → getD (front 0 n cells) k 0 ≡ getD cells k 0
 unfolding front
 front-getD zero cells k h = absurd (not-suc-le-zero h)
 front-getD (suc n) [] zero h = refl
@@ -50,10 +38,10 @@ front-getD (suc n) [] (suc k) h = front-getD n [] k (le-of-suc-le-suc h)
 front-getD (suc n) (c ∷ cells) zero h = refl
 front-getD (suc n) (c ∷ cells) (suc k) h = front-getD n cells k (le-of-suc-le-suc h)
 
-pub front-past : (n : ℕ) (cells : List ℕ) (k : ℕ) → n ≤ k → getD (front n cells) k 0 ≡ 0
-front-past n cells k h = List·getD-eq-default (front n cells) 0 (rw front-length h)
+pub front-past : (n : ℕ) (cells : List ℕ) (k : ℕ) → n ≤ k → getD (front 0 n cells) k 0 ≡ 0
+front-past n cells k h = List·getD-eq-default (front 0 n cells) 0 (rw front-length h)
 
-pub front-out : (n : ℕ) (cells : List ℕ) (k : ℕ) → length cells ≤ k → getD (front n cells) k 0 ≡ 0
+pub front-out : (n : ℕ) (cells : List ℕ) (k : ℕ) → length cells ≤ k → getD (front 0 n cells) k 0 ≡ 0
 unfolding front
 front-out zero cells k h = refl
 front-out (suc n) [] zero h = refl
@@ -62,18 +50,18 @@ front-out (suc n) (c ∷ cells) zero h = absurd (not-suc-le-zero h)
 front-out (suc n) (c ∷ cells) (suc k) h = front-out n cells k (le-of-suc-le-suc h)
 
 -- the test that there are at most `size` items
-pub front-fits : (size n : ℕ) (cells : List ℕ) → n ≤ size → leb (length (front n cells)) size ≡ true
+pub front-fits : (size n : ℕ) (cells : List ℕ) → n ≤ size → leb (length (front 0 n cells)) size ≡ true
 front-fits size n cells h = rw (front-length, le-leb n size h)
 
-pub front-over : (size n : ℕ) (cells : List ℕ) → size < n → leb (length (front n cells)) size ≡ false
+pub front-over : (size n : ℕ) (cells : List ℕ) → size < n → leb (length (front 0 n cells)) size ≡ false
 front-over size n cells h = rw (front-length, lt-leb n size h)
 
 -- the items from the place i on: the cell there and those after it
-pub front-at : (n : ℕ) (cells : List ℕ) (i : ℕ) → i < n → drop i (front n cells) ≡ getD cells i 0 ∷ drop (i + 1) (front n cells)
-front-at n cells i h = rw (add-one, drop-cons (front n cells) i 0 (rw front-length h), front-getD n cells i h)
+pub front-at : (n : ℕ) (cells : List ℕ) (i : ℕ) → i < n → drop i (front 0 n cells) ≡ getD cells i 0 ∷ drop (i + 1) (front 0 n cells)
+front-at n cells i h = rw (add-one, drop-cons (front 0 n cells) i 0 (rw front-length h), front-getD n cells i h)
 
-pub front-end : (n : ℕ) (cells : List ℕ) (i : ℕ) → n ≤ i → drop i (front n cells) ≡ []
-front-end n cells i h = drop-of-length-le (front n cells) {i = i} (rw front-length h)
+pub front-end : (n : ℕ) (cells : List ℕ) (i : ℕ) → n ≤ i → drop i (front 0 n cells) ≡ []
+front-end n cells i h = drop-of-length-le (front 0 n cells) {i = i} (rw front-length h)
 
 pub itemsOf-fresh : itemsOf freshQueue ≡ []
 unfolding itemsOf
@@ -94,13 +82,13 @@ unfolding pushed
 pushed-full size x q h = rw (le-ltb (length q) size h)
 
 -- the items that a store at the length makes, and those of a row with no room
-pub pushed-front-room : (size x n : ℕ) (cells : List ℕ) → length cells ≡ size → n < size → front (n + 1) (set cells n x) ≡ pushed size x (front n cells)
+pub pushed-front-room : (size x n : ℕ) (cells : List ℕ) → length cells ≡ size → n < size → front 0 (n + 1) (set cells n x) ≡ pushed size x (front 0 n cells)
 pushed-front-room size x n cells e h =
     let room : n < length cells = omega arith in
-    rw (pushed-room size x (front n cells) (rw front-length h), add-one, front-push n cells x room)
+    rw (pushed-room size x (front 0 n cells) (rw front-length h), front-push 0 n cells x room)
 
-pub pushed-front-full : (size x n : ℕ) (cells : List ℕ) → size ≤ n → front n cells ≡ pushed size x (front n cells)
-pushed-front-full size x n cells h = sym (pushed-full size x (front n cells) (rw front-length h))
+pub pushed-front-full : (size x n : ℕ) (cells : List ℕ) → size ≤ n → front 0 n cells ≡ pushed size x (front 0 n cells)
+pushed-front-full size x n cells h = sym (pushed-full size x (front 0 n cells) (rw front-length h))
 
 -- skipped
 
@@ -113,12 +101,12 @@ unfolding skipped
 skipped-over size k q h = rw (lt-leb (length q) size h)
 
 -- the items of a row that has more than it may
-pub skipped-front-over : (size k n : ℕ) (cells : List ℕ) → size < n → front n cells ≡ skipped size k (front n cells)
-skipped-front-over size k n cells h = sym (skipped-over size k (front n cells) (rw front-length h))
+pub skipped-front-over : (size k n : ℕ) (cells : List ℕ) → size < n → front 0 n cells ≡ skipped size k (front 0 n cells)
+skipped-front-over size k n cells h = sym (skipped-over size k (front 0 n cells) (rw front-length h))
 
 -- what is left of the items of a row that has no more than it may
-pub skipped-front-fits : (size k n : ℕ) (cells : List ℕ) → n ≤ size → skipped size k (front n cells) ≡ drop k (front n cells)
-skipped-front-fits size k n cells h = skipped-fits size k (front n cells) (rw front-length h)
+pub skipped-front-fits : (size k n : ℕ) (cells : List ℕ) → n ≤ size → skipped size k (front 0 n cells) ≡ drop k (front 0 n cells)
+skipped-front-fits size k n cells h = skipped-fits size k (front 0 n cells) (rw front-length h)
 
 -- findFrom
 

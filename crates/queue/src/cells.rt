@@ -2,14 +2,15 @@
 ghost use mathlib.Core.Path.{_≡_};
 ghost use Prim.Native.Nat.{_≤_};
 ghost use lib.ListN.{length, drop};
-ghost use Rattle.queue.specs.Items.{front, findFrom};
+ghost use Rattle.lists.specs.Cells.{front};
+ghost use Rattle.queue.specs.Items.{findFrom};
 ghost use Rattle.lists.specs.All.{all, between};
 use crate::Found;
 
 // Moves the first n cells down by k places, and gives how many of them are left.
 pub(crate) fn move_down(cells: &mut [u32], k: usize, n: usize) -> usize
     requires { ⌜ n ≤ length (now cells) ⌝ }
-    ensures { λ r. ⌜ front r (now (cells .exit)) ≡ drop k (front n (now (cells .entry))) ⌝ }
+    ensures { λ r. ⌜ front 0 r (now (cells .exit)) ≡ drop k (front 0 n (now (cells .entry))) ⌝ }
 {
     if n <= k {
         return 0;
@@ -26,7 +27,7 @@ pub(crate) fn move_down(cells: &mut [u32], k: usize, n: usize) -> usize
 // Whether each of the first n cells is from low to high.
 pub(crate) fn all_between(cells: &[u32], n: usize, low: u32, high: u32) -> bool
     requires { ⌜ n ≤ length (now cells) ⌝ }
-    ensures { λ r. ⌜ r ≡ all (between low high) (front n (now (cells .entry))) ⌝ }
+    ensures { λ r. ⌜ r ≡ all (between low high) (front 0 n (now (cells .entry))) ⌝ }
 {
     let mut i = 0;
     while i < n {
@@ -45,7 +46,7 @@ pub(crate) fn all_between(cells: &[u32], n: usize, low: u32, high: u32) -> bool
 // The place of the first of the first n cells that equals x.
 pub(crate) fn first_equal(cells: &[u32], n: usize, x: u32) -> Found
     requires { ⌜ n ≤ length (now cells) ⌝ }
-    ensures { λ r. ⌜ r ≡ findFrom x 0 (front n (now (cells .entry))) ⌝ }
+    ensures { λ r. ⌜ r ≡ findFrom x 0 (front 0 n (now (cells .entry))) ⌝ }
 {
     let mut at = 0;
     while at < n {

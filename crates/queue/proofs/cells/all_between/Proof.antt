@@ -4,7 +4,7 @@ use mathlib.Core.Path.{_≡_, refl}
 use lib.ListN.{drop}
 use borrow.Author.Needs.{needs}
 use borrow.Author.Tests.{le-leb, lt-leb}
-use Rattle.queue.specs.Items.{front}
+use Rattle.lists.specs.Cells.{front}
 use Rattle.lists.specs.All.{all, between}
 use Rattle.queue.specs.Laws.{front-at, front-end}
 use Rattle.queue.proofs.cells.all_between.Statement.{statement}
@@ -12,7 +12,7 @@ use Rattle.queue.proofs.cells.all_between.Tie as tie
 
 abbrev Inv-loop : tie.InvT-loop
 Inv-loop cells n low high i₀ i =
-    (i ≤ n) × (all (between low high) (front n cells) ≡ all (between low high) (drop i (front n cells)))
+    (i ≤ n) × (all (between low high) (front 0 n cells) ≡ all (between low high) (drop i (front 0 n cells)))
 
 abbrev μ-loop : tie.MeasureT-loop
 μ-loop cells n low high i₀ i = n - i

@@ -5,13 +5,14 @@ use mathlib.Core.Path.{_≡_, refl}
 use lib.ListN.{drop}
 use borrow.Author.Needs.{needs}
 use borrow.Author.Tests.{eq-eqb, ne-eqb}
-use Rattle.queue.specs.Items.{front, findFrom}
+use Rattle.lists.specs.Cells.{front}
+use Rattle.queue.specs.Items.{findFrom}
 use Rattle.queue.specs.Laws.{front-at, front-end}
 use Rattle.queue.proofs.cells.first_equal.Statement.{statement}
 use Rattle.queue.proofs.cells.first_equal.Tie as tie
 
 abbrev Inv-loop : tie.InvT-loop
-Inv-loop cells n x at₀ at = (at ≤ n) × (findFrom x 0 (front n cells) ≡ findFrom x at (drop at (front n cells)))
+Inv-loop cells n x at₀ at = (at ≤ n) × (findFrom x 0 (front 0 n cells) ≡ findFrom x at (drop at (front 0 n cells)))
 
 abbrev μ-loop : tie.MeasureT-loop
 μ-loop cells n x at₀ at = n - at

@@ -6,9 +6,9 @@ use native.Mathlib.Omega.{arith}
 use mathlib.Core.Path.{_≡_, refl, sym}
 use lib.ListN.{length}
 use borrow.Author.Needs.{needs}
-use Rattle.queue.specs.Items.{front}
+use Rattle.lists.specs.Cells.{front, moved, moved-getD, moved-turn}
 use Rattle.queue.specs.Laws.{front-end, front-drop}
-use Rattle.queue.proofs.Moved.{moved, moved-getD, moved-front, moved-turn}
+use Rattle.queue.proofs.Moved.{moved-front}
 use Rattle.queue.proofs.cells.move_down.Statement.{statement}
 use Rattle.queue.proofs.cells.move_down.Tie as tie
 
@@ -55,7 +55,7 @@ loop-again c =
     let lt : c .before .before .loop .to + c .before .before .before .before .args .k < length (c .before .before .before .before .args .cells .now) = omega arith in (
       search needs,
       search needs,
-      rw (c .before .before .loop .inv .2, moved-getD _ _ _ (le-of-lt lt), add-one, moved-turn _ _ _ lt),
+      rw (c .before .before .loop .inv .2, moved-getD _ _ _ (le-of-lt lt), add-one, moved-turn _ _ _ _ lt),
     )
 
 same-length : tie.Need-same-length Inv-loop μ-loop
