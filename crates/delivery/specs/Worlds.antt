@@ -1,11 +1,10 @@
 -- Laws of a world's parts: the player in it, a side of it, and what a rule's outcome makes of it.
 use Prim.Native.Nat.{ℕ, zero, suc, _<_}
 use mathlib.Core.Path.{_≡_, refl, sym, ap, _∙_}
-use mathlib.Core.Logic.{_≢_}
 use mathlib.Core.List.{List, [], _∷_, map}
 use native.Mathlib.Omega.{arith}
 use lib.ListN.{length, getD, set, length-set, length-map, List·getD-map}
-use lib.Seq.{getD-set-same, getD-set-other, set-set, set-getD}
+use lib.Seq.{getD-set-same, set-set, set-getD}
 use Rattle.journal.specs.Entry.{countOf, entriesOf}
 use Rattle.journal.specs.EntryLaws.{entriesOf-length, entriesOf-numbersOf}
 use Rattle.lists.specs.Set.{map-set}
@@ -98,9 +97,6 @@ withPlayer-player wd q e = ap (withWindows q) (withViews-views (q .windows) (wd 
 
 pub withSide-here : (w : ℕ) (p : Side) (wd : World) → w < length (wd .sides) → sideAt w (withSide w p wd) ≡ p
 withSide-here w p wd h = getD-set-same (wd .sides) w p noSide h
-
-pub withSide-other : (w v : ℕ) (p : Side) (wd : World) → v ≢ w → sideAt v (withSide w p wd) ≡ sideAt v wd
-withSide-other w v p wd n = getD-set-other (wd .sides) w v p noSide n
 
 pub withSide-count : (w : ℕ) (p : Side) (wd : World) → length (withSide w p wd .sides) ≡ length (wd .sides)
 withSide-count w p wd = length-set (wd .sides) w p

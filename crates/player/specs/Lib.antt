@@ -1,5 +1,5 @@
 -- The player's state and code: the view of a state, what the calls promise, and laws of both.
 pub mod View
 pub mod Promise
-pub mod Views
+pub mod FirstWindows
 pub mod InShape

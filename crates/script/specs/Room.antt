@@ -2,26 +2,25 @@
 -- its batches, and the batches on it and the acks on the way back are at most 8 together.
 use Prim.Native.Nat.{ℕ, _+_, _*_, _≤_, _<_}
 use mathlib.Core.Path.{_≡_, refl, sym, ap, subst, subst⁻¹, _∙_}
-use mathlib.Core.Logic.{⊎-elim}
 use mathlib.Core.List.{List, [], _∷_, _++_}
 use mathlib.Core.Bool.{Bool, true, false, cond, true≢false, false≢true}
 use native.Mathlib.Omega.{arith}
 use lib.ListN.{length, replicate, length-append, length-map, List·getD-map}
 use lib.Dec.{eqb, ltb}
 use Rattle.journal.specs.declared.Entry.{Entry}
-use Rattle.lists.specs.Cases.{eq-or-ne}
+use Rattle.lists.specs.Set.{getD-set-each}
 use Rattle.journal.specs.Entry.{numbersOf, entriesOf}
 use Rattle.rules.specs.declared.Term.{Term}
 use Rattle.rules.specs.View.{WindowView, PlayerView, noWindow}
 use Rattle.rules.specs.Window.{batchOf, sendAt, ackAt, joinAt}
 use Rattle.rules.specs.Rules.{Outcome, catchRule, writtenRule, ackRule, dropRule, joinRule, sendRule}
 use Rattle.rules.specs.Offers.{operate-limit, mainRule-cases, startRule-done}
-use Rattle.delivery.specs.World.{Sent, Ack, Side, World, sideAt, numbersIn, playerIn, withLines, withPlayer, withSide, onLine, takeFront, answered, calledThen, launch, takeAtLine, ackAtLine, cleared, newSide, opened}
+use Rattle.delivery.specs.World.{Sent, Ack, Side, World, noSide, sideAt, numbersIn, playerIn, withLines, withPlayer, withSide, onLine, takeFront, answered, calledThen, launch, takeAtLine, ackAtLine, cleared, newSide, opened}
 use Rattle.delivery.specs.World as W
 use Rattle.delivery.specs.Statement.{firstStart}
 use Rattle.delivery.specs.Invariant.{backIndices, endsOf, Inv, Reached}
 use Rattle.delivery.specs.Lines.{endsOf-append, onLine-ends}
-use Rattle.delivery.specs.Worlds.{withSide-here, withSide-other, withSide-count}
+use Rattle.delivery.specs.Worlds.{withSide-count}
 use Rattle.delivery.specs.Effects.{Worked, caught, sent, written, took, acked, stays, mains, works, Facts, working, dropping, joining, starting, appending}
 use Rattle.delivery.specs.SteppedAll.{step-facts}
 use Rattle.delivery.specs.Reach.{reached-step}
@@ -152,10 +151,7 @@ placed-roomy : (wd : World) (v : ℕ) (p : Side) → v < length (wd .sides) → 
     RoomySide p →
     (w : ℕ) → w < length (withSide v p wd .sides) → RoomySide (sideAt w (withSide v p wd))
 placed-roomy wd v p l each r w h =
-    ⊎-elim
-    (λ (e : w ≡ v). subst⁻¹ (λ w. RoomySide (sideAt w (withSide v p wd))) e (subst⁻¹ RoomySide (withSide-here v p wd l) r))
-    (λ (n : w ≡ v → ⊥). subst⁻¹ RoomySide (withSide-other v w p wd n) (each w (omega (arith, withSide-count v p wd))))
-    (eq-or-ne w v)
+    getD-set-each (λ u. RoomySide) (wd .sides) v w p noSide l r (λ n. each w (omega (arith, withSide-count v p wd)))
 
 module _ (wd : World) (s : W.Step) (is : scripted s ≡ true) (r : Roomy wd) where
   -- the same at every side of the next world

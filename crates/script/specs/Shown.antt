@@ -207,7 +207,7 @@ module _ (j : List Entry) (s : Stage) (wd : World) (shows : worldOf j s ≡ forg
         (and-intro (le-leb (lineAt w s .entries .len) 16 (omega (arith, sizes .0, room .0)))
         (le-leb (lineAt w s .acks .len) 8 (omega (arith, sizes .1, room .1))))
 
--- so a stage that shows a world with room plays every step as that world does
+-- A result to be read: so a stage that shows a world with room plays every step as that world does
 pub shown-plays : (ns : List ℕ) (s : Stage) (wd : World) (st : Step) (r : Stepped) → inShape ns ≡ true →
     worldOf (entriesOf ns) s ≡ forgotten wd → Roomy wd →
     length (s .records) ≡ 16 → length (s .lines) ≡ 16 → Plays ns s st r →

@@ -20,7 +20,7 @@ use Rattle.rules.specs.View.{WindowView, PlayerView, noWindow}
 use Rattle.rules.specs.Rules.{windowAt, withWindow}
 use Rattle.player.specs.declared.Player.{Player}
 use Rattle.player.specs.View.{playerOf}
-use Rattle.player.specs.Views.{firstWindows-length, firstWindows-at}
+use Rattle.player.specs.FirstWindows.{firstWindows-length, firstWindows-at}
 use Rattle.delivery.specs.World.{Side, World, noSide, sideAt, numbersIn, playerIn, withView, withPlayer, withSide}
 use Rattle.delivery.specs.Worlds.{withPlayer-window, withSide-here, withSide-twice}
 use Rattle.script.specs.declared.line.Line.{Line}

@@ -105,7 +105,7 @@ numberAfter-accepts word bound line n next e = by (same (take (length word) line
 -- ------------------------------------------------------------------------
 -- stepOf
 
--- a step with a window reads back
+-- A result to be read: a step with a window reads back
 pub stepOf-reads : (verb : Verb) (w : ℕ) → w ≤ 99 → stepOf (wordOf verb ++ numeral w) ≡ StepLine.Step (At verb w)
 unfolding stepOf numberAfter same
 stepOf-reads Catch w h = simp (numberAfter-reads catchWord 99 w h)
@@ -130,6 +130,7 @@ says-or verb line other s = by (numberAfter (wordOf verb) 99 line) refl
     by (Number w next) e = numberAfter-accepts (wordOf verb) 99 line w next e
     by Nothing e = s
 
+-- A result to be read: what a step that is read says of the line
 pub stepOf-says : (line : List ℕ) → Says line (stepOf line)
 unfolding stepOf Says
 stepOf-says line = by (same line mainWord) refl
@@ -148,6 +149,7 @@ stepOf-says line = by (same line mainWord) refl
 -- ------------------------------------------------------------------------
 -- windowsOf
 
+-- A result to be read: the first line reads back
 pub windowsOf-reads : (n : ℕ) → 1 ≤ n → n ≤ 16 → windowsOf (windowsWord ++ numeral n) ≡ Count n
 unfolding windowsOf
 windowsOf-reads n p h = simp (numberAfter-reads windowsWord 16 n h, le-leb 1 n p)
@@ -155,6 +157,7 @@ windowsOf-reads n p h = simp (numberAfter-reads windowsWord 16 n h, le-leb 1 n p
 malformed-count : (n : ℕ) → Malformed ≡ Count n → ⊥
 malformed-count n e = let z : _≡_ {A = ℕ} 0 1 = cc in omega arith
 
+-- A result to be read: what a number of windows that is read says of the line
 pub windowsOf-accepts : (line : List ℕ) (n : ℕ) → windowsOf line ≡ Count n → (1 ≤ n) × Holds windowsWord 16 line n
 unfolding windowsOf
 windowsOf-accepts line n e = by (numberAfter windowsWord 16 line) refl
@@ -171,7 +174,7 @@ windowsOf-accepts line n e = by (numberAfter windowsWord 16 line) refl
     by Nothing r = absurd (malformed-count n (simp r at e))
 
 -- ------------------------------------------------------------------------
--- examples
+-- examples, to be read
 
 read-catch : stepOf (catchWord ++ (57 ∷ 57 ∷ [])) ≡ StepLine.Step (At Catch 99)
 unfolding stepOf numberAfter same readAt

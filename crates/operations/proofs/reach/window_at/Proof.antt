@@ -1,7 +1,7 @@
 -- There are sixteen windows, so that the place is one of them.
 use native.Mathlib.Omega.{arith}
 use borrow.Author.Needs.{needs}
-use Rattle.player.specs.Views.{getD-any}
+use Rattle.player.specs.FirstWindows.{getD-any}
 use Rattle.player.proofs.Sixteen.{windows-length}
 use Rattle.operations.proofs.reach.window_at.Statement.{statement}
 use Rattle.operations.proofs.reach.window_at.Tie as tie

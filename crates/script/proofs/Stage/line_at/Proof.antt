@@ -1,7 +1,7 @@
 -- Window w has a line below the count, and none above it.
 use native.Mathlib.Omega.{arith}
 use borrow.Author.Tests.{lt-ltb, le-ltb}
-use Rattle.player.specs.Views.{getD-any}
+use Rattle.player.specs.FirstWindows.{getD-any}
 use Rattle.script.specs.Line.{freshLine}
 use Rattle.script.proofs.Sixteen.{lines-length}
 use borrow.Author.Needs.{needs}

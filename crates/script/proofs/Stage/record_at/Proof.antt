@@ -2,7 +2,7 @@
 use native.Mathlib.Omega.{arith}
 use borrow.Author.Tests.{lt-ltb, le-ltb}
 use Rattle.record.specs.Record.{newRecord}
-use Rattle.player.specs.Views.{getD-any}
+use Rattle.player.specs.FirstWindows.{getD-any}
 use Rattle.script.proofs.Sixteen.{records-length}
 use borrow.Author.Needs.{needs}
 use Rattle.script.proofs.Stage.record_at.Statement.{statement}
