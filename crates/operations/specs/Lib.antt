@@ -1,4 +1,3 @@
--- The operations on the whole player: what their private functions promise, and laws of it.
-pub mod Stored
+-- The operations on the whole player: laws of what they ask first and of what Start does.
 pub mod MainGuardLaws
 pub mod Starting

@@ -3,3 +3,4 @@ pub mod View
 pub mod Promise
 pub mod FirstWindows
 pub mod InShape
+pub mod Tested

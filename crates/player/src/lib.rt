@@ -3,6 +3,7 @@ mod shape;
 
 use journal::Index;
 pub use shape::count_fits;
+pub use shape::numbers_fit;
 use window::Answer;
 use window::Window;
 
@@ -17,6 +18,6 @@ pub struct Player {
 
 // An answer beside the player as it then is.
 pub struct Played {
-    pub answer: Answer,
     pub player: Player,
+    pub answer: Answer,
 }

@@ -90,6 +90,9 @@ impl Queue {
         if 128 < n {
             return false;
         }
+        if n == 0 {
+            return true;
+        }
         let indices = self.cells;
         cells::all_between(&indices, n, 1, l)
     }

@@ -1,48 +1,87 @@
--- The window's Send, stored, and its output; the refusals before it are those of every operation.
+-- The loop's invariant: the numbers fit, and the windows before `next` are in shape. The window's Send is stored, and its output is the rule's.
+use Prim.Native.Nat.{_-_}
+use mathlib.Core.Path.{sym, _∙_}
+use native.Mathlib.Omega.{arith}
 use borrow.Author.Needs.{needs}
-use Rattle.operations.proofs.Operate.{reached-done}
-use Rattle.operations.proofs.Sent.{send-refused, send-meets}
+use borrow.Author.Tests.{not-true, not-false}
+use Rattle.player.specs.Tested.{Tested, tested-unfit, tested-fit, tested-out, tested-more, tested-all}
+use Rattle.player.proofs.Sixteen.{windows-length}
+use Rattle.operations.proofs.Operate.{reaches}
+use Rattle.operations.proofs.Sent.{send-shapeless, send-absent, send-meets}
 use Rattle.operations.proofs.send.send_on.Statement.{statement}
 use Rattle.operations.proofs.send.send_on.Tie as tie
 
-reach-requires : tie.Need-reach-requires
-reach-requires c κs = search needs
+abbrev Inv-loop : tie.InvT-loop
+Inv-loop journal w out player count current l end next₀ next = Tested journal player next
 
-enum-told : tie.Need-enum-told
-enum-told c = search needs
+abbrev μ-loop : tie.MeasureT-loop
+μ-loop journal w out player count current l end next₀ next = count - next
 
-returns : tie.Need-returns
-returns c = send-refused _ _ _ (c .before .reach .ensures) (c .match .keys2)
+-- the first test passed
+fit : (c : tie.Else1 Inv-loop μ-loop) → let args = c .before .before .before .before .before .args in Tested (args .journal .now) (args .t1) 0
+fit c =
+    let start = c .before .before .before .before .before in
+    tested-fit _ _ (windows-length (start .args .t1) _ (start .good .0)) (sym (c .before .numbers-fit .ensures) ∙ not-false _ (c .if1 .left))
 
-window-at-requires : tie.Need-window-at-requires
-window-at-requires c κs = reached-done _ _ _ (c .before .before .reach .ensures) (c .enum-told .given .1) .place
+returns : tie.Need-returns Inv-loop μ-loop
+returns c = send-shapeless _ _ _ _ (tested-unfit _ _ (sym (c .before .numbers-fit .ensures) ∙ not-true _ (c .if1 .taken)))
 
-send-at-requires : tie.Need-send-at-requires
-send-at-requires c κs = search needs
+cast-l : tie.Need-cast-l Inv-loop μ-loop
+cast-l c =
+    let few = fit (c .before) .entries in
+    record { fits = rw (c .entries .ensures) (omega arith) }
 
-with-window-requires : tie.Need-with-window-requires
-with-window-requires c κs = search needs
+loop-holds : tie.Need-loop-holds Inv-loop μ-loop
+loop-holds c = fit (c .before)
 
-same-length : tie.Need-same-length
-same-length c = search needs
-
-returns-2 : tie.Need-returns-2
+returns-2 : tie.Need-returns-2 Inv-loop μ-loop
 returns-2 c =
+    let turn = c .before in
+    let at = turn .before .before .before in
+    send-shapeless _ _ _ _
+    (tested-out (at .loop .inv) (turn .before .before .loop-test .taken) (at .before .entries .ensures) _ (turn .in-shape .ensures)
+    (not-true _ (c .if2 .taken)))
+
+loop-again : tie.Need-loop-again Inv-loop μ-loop
+loop-again c =
+    let turn = c .before in
+    let at = turn .before .before .before in
+    tested-more (at .loop .inv) (turn .before .before .loop-test .taken) (at .before .entries .ensures) _ (turn .in-shape .ensures)
+    (not-false _ (c .if2 .left))
+
+returns-3 : tie.Need-returns-3 Inv-loop μ-loop
+returns-3 c = send-absent _ _ _ _ (tested-all (c .before .before .loop .inv) (c .before .loop-test .left)) (c .if3 .taken)
+
+returns-4 : tie.Need-returns-4 Inv-loop μ-loop
+returns-4 c =
     let sent = c .before .before .before in
-    let read = sent .before .before in
-    let told = read .before in
-    send-meets _ _ (told .before .before .reach .ensures) (told .enum-told .given .1)
-    (read .window-at .ensures) (sent .send-at .ensures) (c .with-window .ensures)
+    let own = sent .before .before .before in
+    send-meets (reaches (own .before .before .loop .inv) (own .before .loop-test .left) (own .if3 .left)) _ _ _ (sent .send-at .ensures)
 
 pub send-on-spec : {M : Type 1} → statement M
 send-on-spec =
     tie.close
     (tie.spec
-    reach-requires
-    enum-told
+    Inv-loop
+    μ-loop
+    (λ c κs. search needs)
     returns
-    window-at-requires
-    send-at-requires
-    with-window-requires
-    same-length
-    returns-2)
+    (λ c κs. search needs)
+    cast-l
+    (λ c. search needs)
+    loop-holds
+    (λ c. search needs)
+    (λ c. search needs)
+    (λ c κs. search needs)
+    returns-2
+    (λ c. search needs)
+    (λ c. search needs)
+    loop-again
+    returns-3
+    (λ c. search needs)
+    (λ c. search needs)
+    (λ c κs. search needs)
+    (λ c. search needs)
+    (λ c. search needs)
+    (λ c. search needs)
+    returns-4)
