@@ -1,6 +1,6 @@
 -- What Start makes of the player, for each way out.
 use Prim.Native.Nat.{ℕ, _≤_}
-use mathlib.Core.Path.{_≡_, refl, ap, ap₂, _∙_}
+use mathlib.Core.Path.{_≡_, refl, sym, ap, ap₂, _∙_}
 use mathlib.Core.List.{List, map}
 use mathlib.Core.Bool.{true, false}
 use native.Mathlib.Omega.{arith}
@@ -9,16 +9,17 @@ use lib.ListN.{length}
 use lib.Dec.{leb}
 use Rattle.journal.specs.Entry.{inShape, entriesOf}
 use Rattle.lists.specs.Cases.{and-left, and-right}
+use Rattle.window.specs.declared.Answer.{Answer}
 use Rattle.window.specs.declared.Answer.the-variants.{Done, OutOfShape, BadReport}
 use Rattle.player.specs.declared.Player.{Player}
 use Rattle.player.specs.View.{firstWindows, playerOf}
 use Rattle.rules.specs.Shape.{countFits, limitFits}
 use Rattle.rules.specs.Window.{started}
-use Rattle.rules.specs.Rules.{areReports, least, startRule}
-use Rattle.rules.specs.Offers.{startNext}
-use Rattle.player.specs.Promise.{Meets}
-use Rattle.operations.specs.Starting.{startFits}
-use Rattle.player.proofs.Refused.{refuse-meets}
+use Rattle.rules.specs.View.{WindowView, PlayerView}
+use Rattle.rules.specs.Rules.{refuse, areReports, least, startRule}
+use Rattle.player.specs.Promise.{freshWindows, freshPlayer, Starts}
+use Rattle.window.specs.Promise.{numberOf}
+use Rattle.operations.specs.Starting.{startFits, freshWindows-shown}
 
 -- 1 to 16 reports, as many as windows
 pub record Counted (count : ℕ) (reports : List ℕ) : Type 0 where
@@ -37,25 +38,36 @@ module _ (ns : List ℕ) (count limit : ℕ) (reports : List ℕ) where
       record { some = omega arith; few = omega arith; same = e }
 
   module _ (p : Player) where
+    -- a refusal
+    refused : (a : Answer) → startRule ns count limit reports (playerOf p) ≡ refuse (numberOf a) (playerOf p) → (numberOf a ≡ 0 → ⊥) →
+        Starts p count limit reports (record { answer = a; player = p }) (startRule ns count limit reports (playerOf p))
+    refused a e n = rw e (record { answer = refl; next = refl; fresh = λ z. absurd (n z); unchanged = λ h. refl })
+
     pub start-shapeless : startFits ns count limit reports ≡ false →
-        Meets p (record { answer = OutOfShape; player = p }) (startRule ns count limit reports (playerOf p))
+        Starts p count limit reports (record { answer = OutOfShape; player = p }) (startRule ns count limit reports (playerOf p))
     unfolding startRule
-    start-shapeless h = refuse-meets p OutOfShape _ (rw h)
+    start-shapeless h = refused OutOfShape (rw h) (λ z. omega arith)
 
     module _ (h : startFits ns count limit reports ≡ true) where
       pub start-refused : areReports (entriesOf ns) 0 reports ≡ false →
-          Meets p (record { answer = BadReport; player = p }) (startRule ns count limit reports (playerOf p))
+          Starts p count limit reports (record { answer = BadReport; player = p }) (startRule ns count limit reports (playerOf p))
       unfolding startRule
-      start-refused b = refuse-meets p BadReport _ (rw (h, b))
+      start-refused b = refused BadReport (rw (h, b)) (λ z. omega arith)
 
-      pub start-done : areReports (entriesOf ns) 0 reports ≡ true → (r : Player) → playerOf r ≡ startNext limit reports →
-          Meets p (record { answer = Done; player = r }) (startRule ns count limit reports (playerOf p))
-      unfolding startRule
-      start-done b r e = rw (h, b) (record { answer = refl; next = e; unchanged = λ x. absurd (x refl) })
+      pub start-done : areReports (entriesOf ns) 0 reports ≡ true → (r : Player) → r ≡ freshPlayer count limit reports →
+          Starts p count limit reports (record { answer = Done; player = r }) (startRule ns count limit reports (playerOf p))
+      unfolding startRule playerOf
+      start-done b r e =
+          rw (h, b, e) (record { answer = refl; next = ap shown windows; fresh = λ z. refl; unchanged = λ x. absurd (x refl) })
+        where
+          shown : List WindowView → PlayerView
+          shown ws = record { limit = limit; current = least reports; windows = ws }
+
+          windows : firstWindows count (freshWindows reports) ≡ map started reports
+          windows = ap (λ n. firstWindows n (freshWindows reports)) (sym (counted h .same)) ∙ freshWindows-shown reports
 
 -- the player that code makes, from its parts
-pub started-view : (reports : List ℕ) (r : Player) → r .count ≡ length reports → r .current .0 ≡ least reports →
-    firstWindows (length reports) (r .windows) ≡ map started reports → playerOf r ≡ startNext (r .limit) reports
-unfolding playerOf
-started-view reports r c l w =
-    ap₂ (λ i ws. record { limit = r .limit; current = i; windows = ws }) l (ap (λ n. firstWindows n (r .windows)) c ∙ w)
+pub started-player : (r : Player) (reports : List ℕ) → r .current .0 ≡ least reports → r .windows ≡ freshWindows reports →
+    r ≡ freshPlayer (r .count) (r .limit) reports
+started-player r reports l w =
+    ap₂ (λ i ws. record { count = r .count; limit = r .limit; current = record { 0 = i }; windows = ws }) l w

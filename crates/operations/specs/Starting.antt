@@ -1,20 +1,21 @@
 -- For Start: its first checks, the least of some reports, the reports one by one, and windows stored one by one.
-use Prim.Native.Nat.{ℕ, zero, suc, _+_, _≤_, _<_, min}
-use native.Mathlib.Nat.{le-of-suc-le-suc, not-suc-le-zero}
+use Prim.Native.Nat.{ℕ, zero, suc, _+_, _-_, _≤_, _<_, min}
+use native.Mathlib.Nat.{le-of-suc-le-suc}
 use native.Mathlib.Numerals.{add-one}
 use native.Mathlib.Omega.{arith}
-use mathlib.Core.Path.{_≡_, refl, ap}
-use mathlib.Core.List.{List, [], _∷_, _++_, map, map-append}
+use mathlib.Core.Path.{_≡_, refl, sym, ap₂, _∙_}
+use mathlib.Core.List.{List, [], _∷_, _++_, map, map-append, append-assoc}
 use mathlib.Core.Bool.{Bool, true, _&&_}
-use lib.ListN.{length, take, drop, getD, set, drop-of-length-le}
-use lib.Seq.{take-suc, drop-cons}
+use lib.ListN.{length, take, drop, getD, set, replicate, drop-of-length-le, length-append, length-map}
+use lib.Seq.{take-suc, length-take-le, drop-cons, set-at}
 use lib.Dec.{eqb}
 use Rattle.journal.specs.declared.Entry.{Entry}
 use Rattle.journal.specs.Entry.{inShape}
 use Rattle.window.specs.declared.Window.{Window}
-use Rattle.rules.specs.View.{WindowView}
-use Rattle.window.specs.View.{viewOf}
+use Rattle.window.specs.Promise.{freshWindow}
+use Rattle.window.specs.Laws.{viewOf-fresh}
 use Rattle.player.specs.View.{firstWindows}
+use Rattle.player.specs.Promise.{freshWindows}
 use Rattle.rules.specs.Shape.{countFits, limitFits}
 use Rattle.rules.specs.Window.{started}
 use Rattle.rules.specs.Rules.{isStartReport, areReports, least}
@@ -56,18 +57,33 @@ unfolding areReports
 areReports-end j rs w l = rw (drop-of-length-le rs {i = w} l)
 
 -- ------------------------------------------------------------------------
--- firstWindows
+-- freshWindows
 
-firstWindows-push : (w : ℕ) (ws : List Window) (x : Window) → w < length ws →
-    firstWindows (suc w) (set ws w x) ≡ firstWindows w ws ++ (viewOf x ∷ [])
+pub freshWindows-none : replicate 16 (freshWindow 0) ≡ freshWindows []
+unfolding freshWindows
+freshWindows-none = refl
+
+-- one more window, from its report
+freshWindows-snoc : (rs : List ℕ) (r w : ℕ) → length rs ≡ w → w < 16 →
+    set (freshWindows rs) w (freshWindow r) ≡ freshWindows (rs ++ (r ∷ []))
+unfolding freshWindows
+freshWindows-snoc rs r w e h =
+    let left : 16 - length rs ≡ suc (16 - suc (length rs)) = omega arith in
+    let after : length (rs ++ (r ∷ [])) ≡ suc (length rs) = omega (arith, length-append rs (r ∷ [])) in
+    rw (left, set-at (map freshWindow rs) (freshWindow 0) _ (freshWindow r) w (length-map rs freshWindow ∙ e), map-append, after)
+    (sym (append-assoc (map freshWindow rs) (freshWindow r ∷ []) _))
+
+pub freshWindows-more : (w : ℕ) (rs : List ℕ) → w < length rs → w < 16 →
+    set (freshWindows (take w rs)) w (freshWindow (getD rs w 0)) ≡ freshWindows (take (w + 1) rs)
+freshWindows-more w rs l h =
+    rw (add-one, take-suc rs w 0 l) (freshWindows-snoc (take w rs) (getD rs w 0) w (length-take-le w rs (omega arith)) h)
+
+firstWindows-fresh : (rs : List ℕ) (ws : List Window) → firstWindows (length rs) (map freshWindow rs ++ ws) ≡ map started rs
 unfolding firstWindows
-firstWindows-push zero [] x h = absurd (not-suc-le-zero h)
-firstWindows-push zero (y ∷ ws) x h = refl
-firstWindows-push (suc w) [] x h = absurd (not-suc-le-zero h)
-firstWindows-push (suc w) (y ∷ ws) x h = ap (λ (t : List WindowView). viewOf y ∷ t) (firstWindows-push w ws x (le-of-suc-le-suc h))
+firstWindows-fresh [] ws = refl
+firstWindows-fresh (r ∷ rs) ws = ap₂ _∷_ (viewOf-fresh r) (firstWindows-fresh rs ws)
 
--- one more fresh window, from its report
-pub firstWindows-started : (w : ℕ) (ws : List Window) (x : Window) (rs : List ℕ) → w < length ws → w < length rs →
-    viewOf x ≡ started (getD rs w 0) → firstWindows w ws ≡ map started (take w rs) →
-    firstWindows (w + 1) (set ws w x) ≡ map started (take (w + 1) rs)
-firstWindows-started w ws x rs h l e p = rw (add-one, firstWindows-push w ws x h, take-suc rs w 0 l, map-append, e, p)
+-- what the fresh windows show
+pub freshWindows-shown : (rs : List ℕ) → firstWindows (length rs) (freshWindows rs) ≡ map started rs
+unfolding freshWindows
+freshWindows-shown rs = firstWindows-fresh rs _

@@ -9,12 +9,10 @@ use window::is_report;
 use window::limit_fits;
 ghost use Prim.Native.Nat.{_≤_};
 ghost use mathlib.Core.Path.{_≡_};
-ghost use mathlib.Core.List.{map};
 ghost use lib.ListN.{length};
 ghost use Rattle.journal.specs.Entry.{entriesOf};
-ghost use Rattle.player.specs.View.{playerOf, firstWindows};
-ghost use Rattle.player.specs.Promise.{Meets};
-ghost use Rattle.rules.specs.Window.{started};
+ghost use Rattle.player.specs.View.{playerOf};
+ghost use Rattle.player.specs.Promise.{freshWindows, Starts};
 ghost use Rattle.rules.specs.Rules.{isStartReport, areReports, least, startRule};
 ghost use Rattle.operations.specs.Starting.{startFits};
 
@@ -82,7 +80,7 @@ fn least(reports: &[u32]) -> Index
 // Fresh windows from the reports, of which there are sixteen at most.
 fn windows_of(reports: &[u32]) -> [Window; 16]
     requires { ⌜ length (now reports) ≤ 16 ⌝ }
-    ensures { λ r. ⌜ firstWindows (length (now (reports .entry))) r ≡ map started (now (reports .entry)) ⌝ }
+    ensures { λ r. ⌜ r ≡ freshWindows (now (reports .entry)) ⌝ }
 {
     let none = Window::started(Index(0));
     let mut windows = [none; 16];
@@ -94,10 +92,10 @@ fn windows_of(reports: &[u32]) -> [Window; 16]
     windows
 }
 
-// Start: 1, also where there are not exactly `count` reports; 13: a report that is not one of its window. Every window below `count`
-// is fresh, and `current` is the least report. What the player held before is not read.
+// Start: 1, also where there are not exactly `count` reports; 13: a report that is not one of its window. Every window is fresh, those
+// from `count` up with a report of 0, and `current` is the least report. What the player held before is not read.
 pub fn start_on(player: Player, journal: &[u32], count: u32, limit: u32, reports: &[u32]) -> Played
-    ensures { λ r. ⌜ Meets player r (startRule (now (journal .entry)) count limit (now (reports .entry)) (playerOf player)) ⌝ }
+    ensures { λ r. ⌜ Starts player count limit (now (reports .entry)) r (startRule (now (journal .entry)) count limit (now (reports .entry)) (playerOf player)) ⌝ }
 {
     if !start_in_shape(journal, count, limit, reports) {
         return Played {

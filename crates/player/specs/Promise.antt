@@ -1,22 +1,41 @@
 -- What the calls promise: the equations between code and rule.
-use Prim.Native.Nat.{ℕ}
+use Prim.Native.Nat.{ℕ, _-_}
 use mathlib.Core.Path.{_≡_}
-use mathlib.Core.List.{List}
+use mathlib.Core.List.{List, _++_, map}
 use mathlib.Core.Bool.{Bool, _&&_}
+use lib.ListN.{length, drop, replicate}
 use lib.Dec.{leb}
 use Rattle.journal.specs.Entry.{inShape, countOf}
 use Rattle.rules.specs.Shape.{countFits, limitFits}
-use Rattle.rules.specs.Rules.{Outcome}
-use Rattle.window.specs.Promise.{numberOf}
+use Rattle.rules.specs.Rules.{Outcome, least}
+use Rattle.window.specs.Promise.{numberOf, freshWindow}
+use Rattle.window.specs.declared.Window.{Window}
 use Rattle.player.specs.declared.Player.{Player}
 use Rattle.player.specs.declared.Played.{Played}
 use Rattle.player.specs.View.{playerOf}
 
--- an operation on the player: its answer and the view of the next state are the rule's, and a refusal gives back the player handed in,
--- stale cells too
+-- an operation on the player: its answer and the view of the next state are the rule's, a refusal gives back the player handed in, stale
+-- cells too, and the windows from W up are as they were in any case
 pub record Meets (before : Player) (r : Played) (o : Outcome) : Type 0 where
   pub answer : numberOf (r .answer) ≡ o .answer
   pub next : playerOf (r .player) ≡ o .next
+  pub unchanged : (o .answer ≡ 0 → ⊥) → r .player ≡ before
+  pub above : drop (before .count) (r .player .windows) ≡ drop (before .count) (before .windows)
+
+-- the sixteen windows of a fresh player: a fresh one for each report, and from W up fresh ones with a report of 0
+unfoldable pub freshWindows : List ℕ → List Window
+freshWindows reports = map freshWindow reports ++ replicate (16 - length reports) (freshWindow 0)
+
+-- a fresh player, whole
+abbrev pub freshPlayer : ℕ → ℕ → List ℕ → Player
+freshPlayer count limit reports = record { count = count; limit = limit; current = record { 0 = least reports }; windows = freshWindows reports }
+
+-- Start: its answer is the rule's; answered 0, the next state is a fresh player, whose view is the rule's; a refusal gives back the player
+-- handed in
+pub record Starts (before : Player) (count limit : ℕ) (reports : List ℕ) (r : Played) (o : Outcome) : Type 0 where
+  pub answer : numberOf (r .answer) ≡ o .answer
+  pub next : playerOf (r .player) ≡ o .next
+  pub fresh : o .answer ≡ 0 → r .player ≡ freshPlayer count limit reports
   pub unchanged : (o .answer ≡ 0 → ⊥) → r .player ≡ before
 
 -- what the shape asks of the player's numbers and of the journal, beside each window

@@ -1,4 +1,5 @@
--- What the player holds for one window: its view, what the operations at it promise, and what they ask first.
+-- What the player holds for one window: its view, what the operations at it promise, what they ask first, and a law of a fresh one.
 pub mod View
 pub mod Promise
 pub mod Admission
+pub mod Laws

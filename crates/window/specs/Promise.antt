@@ -1,8 +1,11 @@
 -- What the operations at one window promise: document 01's number for each answer, and the equations between code and rule.
 use Prim.Native.Nat.{ℕ}
 use mathlib.Core.Path.{_≡_}
+use mathlib.Core.Bool.{false}
+use Rattle.queue.specs.Items.{freshQueue, freshBatches}
 use Rattle.window.specs.declared.Answer.{Answer}
 use Rattle.window.specs.declared.Answer.the-variants.{Done, OutOfShape, NoSuchWindow, Suspended, NothingToRead, OtherTerm, OtherIndex, NothingReady, LineState, TooManyBatches, CatchUpFull, NoSuchBatch, NotSuspended, BadReport, LastTerm, OutputTooShort}
+use Rattle.window.specs.declared.Condition.the-variants.{Normal}
 use Rattle.window.specs.declared.Window.{Window}
 use Rattle.window.specs.declared.Turned.{Turned}
 use Rattle.window.specs.View.{viewOf}
@@ -32,3 +35,18 @@ pub record MeetsWindow (before : Window) (r : Turned) (t : Turn) : Type 0 where
   pub answer : numberOf (r .answer) ≡ t .answer
   pub next : viewOf (r .window) ≡ t .next
   pub unchanged : (t .answer ≡ 0 → ⊥) → r .window ≡ before
+
+-- a fresh window, whole: Normal, on its first term, the line free, acknowledged and sent its report, 128 zeros in each queue
+abbrev pub freshWindow : ℕ → Window
+freshWindow r = record {
+  head = record {
+    term = record { 0 = 1 };
+    acked = record { 0 = r };
+    sent = record { 0 = r };
+    busy = false;
+    batches = freshBatches;
+    condition = Normal;
+  };
+  normal = freshQueue;
+  «catch_up» = freshQueue;
+}

@@ -1,10 +1,10 @@
--- Each way out has the outcomes of the checks before it; the player made is the rule's, part by part.
+-- Each way out has the outcomes of the checks before it; the player made is a fresh one, part by part.
 use mathlib.Core.Path.{_≡_, sym, _∙_}
 use mathlib.Core.Bool.{true}
 use borrow.Author.Needs.{needs}
 use borrow.Author.Tests.{not-true, not-false}
 use Rattle.operations.specs.Starting.{startFits}
-use Rattle.operations.proofs.Started.{Counted, counted, start-shapeless, start-refused, start-done, started-view}
+use Rattle.operations.proofs.Started.{Counted, counted, start-shapeless, start-refused, start-done, started-player}
 use Rattle.operations.proofs.start.start_on.Statement.{statement}
 use Rattle.operations.proofs.start.start_on.Tie as tie
 
@@ -41,7 +41,7 @@ returns-3 c =
     let own = c .before .before in
     let fitted = own .before .before in
     start-done _ _ _ _ _ (fit fitted) (sym (own .before .are-reports .ensures) ∙ not-false _ (own .if2 .left)) _
-    (started-view _ _ (sym (few fitted .same)) (c .before .least .ensures) (c .windows-of .ensures))
+    (started-player _ _ (c .before .least .ensures) (c .windows-of .ensures))
 
 pub start-on-spec : {M : Type 1} → statement M
 start-on-spec =
