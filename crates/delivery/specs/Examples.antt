@@ -20,7 +20,7 @@ replies wd [] = []
 replies wd (s ∷ ss) = step s wd .reply ∷ replies (step s wd .world) ss
 
 -- to unfold this is to unfold the definitions that a run computes with
-computed : Unit {0}
+unfoldable pub computed : Unit {0}
 unfolding
     replies run step opened withViews withPlayer onLine takeFront
     startRule areReports least mainRule catchRule writtenRule ackRule dropRule joinRule sendRule operate mapWindows
@@ -57,21 +57,6 @@ room = replicate 10 0
 -- the journal of document 01's run: 1 3 POST 1 50400; 2 1 ODDS 1 350; 3 2 CLOSE 1 0
 abbrev pub afternoon : List Entry
 afternoon = entry4 3 1 1 50400 ∷ entry4 1 2 1 350 ∷ entry4 2 3 1 0 ∷ []
-
-abbrev pub afternoonSteps : List Step
-afternoonSteps =
-    main 1 ∷ send 0 room ∷ take 0 ∷ drop 0 ∷ main 2 ∷ join 0 ∷ send 0 room ∷ catch 0 (term 2) 2 ∷ send 0 room ∷ take 0 ∷ []
-
--- (a) the run of document 01: its answers, and then the windows' last and count
-pub record RunA : Type 0 where
-  pub answers : replies (openedWith afternoon 2) afternoonSteps ≡
-      done ∷ done ∷ done ∷ done ∷ done ∷ done ∷ answered 7 ∷ done ∷ done ∷ done ∷ []
-  pub window0 : shownAt 0 (run (openedWith afternoon 2) afternoonSteps) ≡ record { last = 2; count = 2 }
-  pub window1 : shownAt 1 (run (openedWith afternoon 2) afternoonSteps) ≡ record { last = 0; count = 0 }
-
-pub row-a : RunA
-unfolding computed
-row-a = record { answers = refl; window0 = refl; window1 = refl }
 
 -- A line drops between taking the last entry of a batch and its ack: the ack is refused and stays. The window joins with what it has taken:
 -- the line is then empty both ways and free, and the window is Normal.

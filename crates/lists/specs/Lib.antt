@@ -1,5 +1,6 @@
 -- What several crates say of lists and tests: ways to go by cases, a test of every item, membership and the last item, rising lists, a list
--- with one item replaced, a list written over another, and the first cells of a row.
+-- with one item replaced, a list written over another, the first cells of a row, and the refusals of a call in
+-- order.
 pub mod Cases
 pub mod All
 pub mod Elem
@@ -7,3 +8,4 @@ pub mod Rising
 pub mod Set
 pub mod Over
 pub mod Cells
+pub mod Refusal

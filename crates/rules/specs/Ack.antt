@@ -1,10 +1,10 @@
 -- The laws of Ack: the batches that it strikes off, what it does at one window, and the rule.
 use Prim.Native.Nat.{ℕ, suc, _≤_, _<_}
-use mathlib.Core.Path.{_≡_, refl, ap}
+use mathlib.Core.Path.{_≡_, refl, _∙_}
 use mathlib.Core.List.{List, [], _∷_}
 use mathlib.Core.Bool.{Bool, true, false, not, cond}
 use native.Mathlib.Omega.{arith}
-use borrow.Author.Tests.{leb-true, eq-eqb, not-false}
+use borrow.Author.Tests.{leb-true, lt-ltb, eq-eqb, not-false}
 use lib.ListN.{length}
 use lib.Dec.{eqb}
 use Rattle.lists.specs.Cases.{and-right}
@@ -15,10 +15,11 @@ use Rattle.rules.specs.View.{WindowView, PlayerView}
 use Rattle.rules.specs.Shape.{shape}
 use Rattle.rules.specs.Window.{isSuspended, otherTerm, struck, acknowledged, ackAt}
 use Rattle.rules.specs.Rules.{windowAt, ackRule}
+use Rattle.rules.specs.Refusals.{ackRule-refusals}
 use Rattle.rules.specs.Checks.{Decides, done-decides, check-decides, otherTerm-same, otherTerm-own}
 use Rattle.rules.specs.Shaped.{WindowShaped}
 use Rattle.rules.specs.Parts.{normalQueued, catchQueued, conditionShaped, here-shaped}
-use Rattle.rules.specs.Operate.{Operated, Lawful, decides-lawful, Effect, LawfulRule, operate-can, operate-lawful}
+use Rattle.rules.specs.Operate.{Operated, Lawful, decides-lawful, Effect, LawfulRule, operate-lawful}
 
 -- ------------------------------------------------------------------------
 -- the batches struck off
@@ -97,7 +98,5 @@ ackRule-done ns w t i p = ackRule-lawful ns w t i p .does
 pub ackRule-can : (ns : List ℕ) (w : ℕ) (p : PlayerView) → shape ns p ≡ true → w < length (p .windows) →
     (i : ℕ) → isSuspended (windowAt w p .condition) ≡ false → elem i (windowAt w p .batches) ≡ true →
     ackRule ns w (windowAt w p .term) i p .answer ≡ 0
-unfolding ackRule
 ackRule-can ns w p shaped within i here out =
-    let v : WindowView = windowAt w p in
-    operate-can ns w _ p _ shaped within (ackAt-decides (v .term) i v .can (here, (otherTerm-own v, (ap not out, tt))))
+    ackRule-refusals ns w _ i p ∙ simp (shaped, lt-ltb w _ within, here, otherTerm-own (windowAt w p), out)

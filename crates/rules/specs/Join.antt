@@ -1,18 +1,20 @@
 -- The laws of Join: what it does at one window, and the rule.
 use Prim.Native.Nat.{ℕ, _+_, _≤_, _<_}
-use mathlib.Core.Path.{_≡_, refl}
+use mathlib.Core.Path.{_≡_, refl, sym, ap, _∙_}
 use mathlib.Core.List.{List, [], _∷_}
-use mathlib.Core.Bool.{Bool, true, false, not, cond, _||_, false≢true}
+use mathlib.Core.Bool.{Bool, true, false, not, cond, _&&_, _||_, false≢true}
 use native.Mathlib.Omega.{arith}
-use borrow.Author.Tests.{ltb-true, ltb-false, not-false}
+use borrow.Author.Tests.{ltb-true, ltb-false, lt-ltb, le-ltb, ne-eqb, not-false}
+use lib.ListN.{length}
 use lib.Dec.{ltb, eqb}
 use Rattle.journal.specs.declared.Entry.{Entry}
-use Rattle.lists.specs.Cases.{and-left, and-right, or-left, or-right}
-use Rattle.journal.specs.Entry.{entriesOf}
+use Rattle.lists.specs.Cases.{and-left, and-right, or-left, or-right, not-or}
+use Rattle.journal.specs.Entry.{entriesOf, isFor}
 use Rattle.rules.specs.View.{Condition, normal, fetching, completed, suspended, WindowView, PlayerView}
-use Rattle.rules.specs.Shape.{isEmpty, suspendedFits}
+use Rattle.rules.specs.Shape.{isEmpty, suspendedFits, shape}
 use Rattle.rules.specs.Window.{isSuspended, isReport, joined, joinAt}
 use Rattle.rules.specs.Rules.{windowAt, joinRule}
+use Rattle.rules.specs.Refusals.{joinRule-refusals}
 use Rattle.rules.specs.Checks.{Decides, done-decides, check-decides}
 use Rattle.rules.specs.Shaped.{WindowShaped}
 use Rattle.rules.specs.Parts.{normalQueued, catchQueued, ConditionShaped, normal-shaped, fetching-shaped, here-shaped}
@@ -83,3 +85,13 @@ joinRule-lawful ns w r p = operate-lawful ns w _ p _ (joinAt-lawful _ (entriesOf
 pub joinRule-done : (ns : List ℕ) (w r : ℕ) (p : PlayerView) → joinRule ns w r p .answer ≡ 0 →
     Operated ns w p (joinRule ns w r p) (JoinedOn (entriesOf ns) w (p .current) r (windowAt w p)) (λ c. joined (p .current) r (windowAt w p))
 joinRule-done ns w r p = joinRule-lawful ns w r p .does
+
+-- a Suspended window takes a report of its own, from acknowledged to sent, while its term can go up
+pub joinRule-can : (ns : List ℕ) (w : ℕ) (p : PlayerView) → shape ns p ≡ true → w < length (p .windows) →
+    (r : ℕ) → isSuspended (windowAt w p .condition) ≡ true → windowAt w p .term .0 < 4294967295 →
+    windowAt w p .acked ≤ r → r ≤ windowAt w p .sent → isReport (entriesOf ns) w r ≡ true → joinRule ns w r p .answer ≡ 0
+joinRule-can ns w p shaped within r away term least most report =
+    let v : WindowView = windowAt w p in
+    let own : (not (eqb r 0) && not (isFor (entriesOf ns) w r)) ≡ false = sym (not-or (eqb r 0) _) ∙ ap not report in
+    let below : eqb (v .term .0) 4294967295 ≡ false = ne-eqb (v .term .0) 4294967295 (omega arith) in
+    joinRule-refusals ns w r p ∙ simp (shaped, lt-ltb w _ within, away, below, le-ltb r (v .acked) least, le-ltb (v .sent) r most, own)

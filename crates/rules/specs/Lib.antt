@@ -1,10 +1,12 @@
--- The rules of the player: the view that they speak of, the shape, a rule for each operation, and the laws that the rules offer.
+-- The rules of the player: the view that they speak of, the shape, a rule for each operation, its refusals in order, and the laws
+-- that the rules offer.
 pub mod View
 pub mod Shape
 pub mod Window
 pub mod Rules
 pub mod Checks
 pub mod Shaped
+pub mod Refusals
 pub mod Parts
 pub mod Operate
 pub mod Main

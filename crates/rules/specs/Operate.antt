@@ -6,11 +6,11 @@ use mathlib.Core.List.{List, [], _∷_}
 use mathlib.Core.Bool.{Bool, true, false, not, cond}
 use native.Mathlib.Omega.{arith}
 use borrow.Author.Tests.{ltb-true, lt-ltb}
-use lib.ListN.{length, set, getD, length-set}
-use lib.Seq.{set-getD}
+use lib.ListN.{length, set, getD, length-set, List·getD-eq-default}
+use lib.Seq.{getD-set-same, set-getD}
 use lib.Dec.{ltb}
 use Rattle.journal.specs.declared.Entry.{Entry}
-use Rattle.lists.specs.Cases.{eq-or-ne}
+use Rattle.lists.specs.Cases.{le-or-lt, eq-or-ne}
 use Rattle.lists.specs.Set.{getD-set-each}
 use Rattle.journal.specs.Entry.{countOf, entriesOf}
 use Rattle.rules.specs.View.{WindowView, PlayerView, noWindow}
@@ -19,6 +19,17 @@ use Rattle.rules.specs.Window.{Turn, done}
 use Rattle.rules.specs.Rules.{Outcome, refuse, windowAt, withWindow, turnAt, operate, mapWindows}
 use Rattle.rules.specs.Checks.{Refuses, Fail, Decides, decides-next}
 use Rattle.rules.specs.Shaped.{WindowShaped, Shaped, shaped, shape-of}
+
+-- ------------------------------------------------------------------------
+-- windowAt
+
+-- a window other than what stands where there is none is there
+pub windowAt-within : (w : ℕ) (p : PlayerView) → (windowAt w p ≡ noWindow → ⊥) → w < length (p .windows)
+windowAt-within w p some =
+    ⊎-elim
+    (λ (h : length (p .windows) ≤ w). absurd (some (List·getD-eq-default (p .windows) noWindow h)))
+    (λ (h : w < length (p .windows)). h)
+    (le-or-lt (length (p .windows)) w)
 
 -- ------------------------------------------------------------------------
 -- operate
@@ -30,6 +41,11 @@ pub record Operated (ns : List ℕ) (w : ℕ) (p : PlayerView) (o : Outcome) (T 
   pub within : w < length (p .windows)
   pub turn : T
   pub next : o .next ≡ withWindow w (after turn) p
+
+-- the window as the operation leaves it
+pub operated-at : {ns : List ℕ} {w : ℕ} {p : PlayerView} {o : Outcome} {T : Type 0} {after : T → WindowView} →
+    (d : Operated ns w p o T after) → windowAt w (o .next) ≡ after (d .turn)
+operated-at {w = w} {p = p} d = ap (windowAt w) (d .next) ∙ getD-set-same (p .windows) w _ noWindow (d .within)
 
 module _ (ns : List ℕ) (w : ℕ) (f : WindowView → Turn) (p : PlayerView) where
   -- what holds of both refusals and, in shape and at a window that is there, of the window's turn, holds of the operation

@@ -2,7 +2,7 @@
 use Prim.Native.Nat.{ℕ, _≤_, _<_}
 use mathlib.Core.Path.{_≡_, refl, ap}
 use mathlib.Core.List.{List, [], _∷_, _++_}
-use mathlib.Core.Bool.{true, false, not, _&&_, true≢false}
+use mathlib.Core.Bool.{true, false, not, _&&_, true≢false, false≢true}
 use native.Mathlib.Omega.{arith}
 use borrow.Author.Tests.{leb-true, le-leb}
 use lib.ListN.{length, drop, length-append, length-drop}
@@ -125,6 +125,21 @@ here-shaped {v = v} n q h s =
       catchUp = s .catchUp;
       away = suspendedFits-here v (v .condition) (s .here);
     }
+
+-- a window with an unacknowledged batch is not Suspended
+pub batches-here : {l c : ℕ} {v : WindowView} → WindowShaped l c v → 1 ≤ length (v .batches) → isSuspended (v .condition) ≡ false
+batches-here {v = v} s some = by (v .condition) (s .away)
+  where
+    none : (q : List ℕ) → isEmpty q ≡ true → 1 ≤ length q → ⊥
+    none [] e h = omega arith
+    none (x ∷ q) e h = false≢true e
+
+    by : (t : Condition) → suspendedFits v t ≡ true → isSuspended t ≡ false
+    by normal e = refl
+    by (fetching n end) e = refl
+    by (completed end) e = refl
+    by suspended e =
+        absurd (none (v .batches) (and-right (isEmpty (v .catchQueue)) _ (and-right (isEmpty (v .normalQueue)) _ e)) some)
 
 -- ------------------------------------------------------------------------
 -- a longer journal and a later `current` allow no less

@@ -1,18 +1,19 @@
 -- The laws of Written: what it does at one window, and the rule.
 use Prim.Native.Nat.{ℕ, _<_}
-use mathlib.Core.Path.{_≡_, ap}
+use mathlib.Core.Path.{_≡_, _∙_}
 use mathlib.Core.List.{List, [], _∷_}
 use mathlib.Core.Bool.{true, false, not}
-use borrow.Author.Tests.{not-false}
+use borrow.Author.Tests.{lt-ltb, not-false}
 use lib.ListN.{length}
 use Rattle.rules.specs.declared.Term.{Term}
 use Rattle.rules.specs.View.{WindowView, PlayerView}
 use Rattle.rules.specs.Shape.{shape}
 use Rattle.rules.specs.Window.{isSuspended, otherTerm, freed, writtenAt}
 use Rattle.rules.specs.Rules.{windowAt, writtenRule}
+use Rattle.rules.specs.Refusals.{writtenRule-refusals}
 use Rattle.rules.specs.Checks.{Decides, done-decides, check-decides, otherTerm-same, otherTerm-own}
 use Rattle.rules.specs.Parts.{normalQueued, catchQueued, lined, conditionShaped, here-shaped}
-use Rattle.rules.specs.Operate.{Lawful, decides-lawful, Effect, LawfulRule, operate-can, operate-lawful}
+use Rattle.rules.specs.Operate.{Lawful, decides-lawful, Effect, LawfulRule, operate-lawful}
 
 -- ------------------------------------------------------------------------
 -- at one window
@@ -47,7 +48,5 @@ writtenRule-lawful ns w t p = operate-lawful ns w _ p _ (writtenAt-lawful _ t _)
 
 pub writtenRule-can : (ns : List ℕ) (w : ℕ) (p : PlayerView) → shape ns p ≡ true → w < length (p .windows) →
     isSuspended (windowAt w p .condition) ≡ false → windowAt w p .busy ≡ true → writtenRule ns w (windowAt w p .term) p .answer ≡ 0
-unfolding writtenRule
 writtenRule-can ns w p shaped within here busy =
-    let v : WindowView = windowAt w p in
-    operate-can ns w _ p _ shaped within (writtenAt-decides (v .term) v .can (here, (otherTerm-own v, (ap not busy, tt))))
+    writtenRule-refusals ns w _ p ∙ simp (shaped, lt-ltb w _ within, here, otherTerm-own (windowAt w p), busy)

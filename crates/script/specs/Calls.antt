@@ -30,7 +30,7 @@ use Rattle.script.specs.declared.Stepped.{Stepped}
 use Rattle.script.specs.Stage.{worldOf, forgotten, dueIn, stepIn, replyOf, windowOf, lineAt}
 use Rattle.script.specs.Promise.{playable, Playable, Steps}
 use Rattle.script.specs.Stored.{calledBy}
-use Rattle.script.specs.Worlds.{worldOf-numbers, Staged, worldOf-player, worldOf-side, worldOf-called}
+use Rattle.script.specs.Worlds.{worldOf-numbers, Staged, worldOf-player, worldOf-side, worldOf-called, storedAt-same}
 
 -- ------------------------------------------------------------------------
 -- playable, Steps
@@ -81,11 +81,12 @@ module _ (ns : List ℕ) (s : Stage) (h : Staged s) (e : inShape ns ≡ true) wh
   view-here : (w : ℕ) → sideAt w wd .view ≡ windowAt w player
   view-here w = ap (λ p. p .view) (worldOf-side (entriesOf ns) s h w)
 
-  called-steps : (st : Step) (r : Played) (o : Outcome) → W.step (stepIn wd st) wd ≡ called o wd → Meets (s .player) r o →
-      length (o .next .windows) ≡ length (player .windows) → Steps (entriesOf ns) s st (calledBy s r)
-  called-steps st r o is k same =
-      steps-as (entriesOf ns) s st (called o wd) (calledBy s r) is (ap answered (k .answer))
-      (worldOf-called (entriesOf ns) s h (r .player) (o .next) (k .next) same)
+  called-steps : (st : Step) (w : ℕ) (r : Played) (o : Outcome) → W.step (stepIn wd st) wd ≡ called o wd → Meets (s .player) r o →
+      length (o .next .windows) ≡ length (player .windows) → Steps (entriesOf ns) s st (calledBy s w r)
+  called-steps st w r o is k same =
+      steps-as (entriesOf ns) s st (called o wd) (calledBy s w r) is (ap answered (k .answer))
+      (ap (worldOf (entriesOf ns)) (storedAt-same s w (r .player))
+      ∙ worldOf-called (entriesOf ns) s h (r .player) (o .next) (k .next) same)
 
   -- out of shape the index offered does not matter
   mainRule-due : (i : ℕ) (p : PlayerView) → (p .current < 4294967295 → i ≡ p .current + 1) →
@@ -98,37 +99,37 @@ module _ (ns : List ℕ) (s : Stage) (h : Staged s) (e : inShape ns ≡ true) wh
       go false g = simp g
 
   pub main-steps : (i : ℕ) (r : Played) → (s .player .current .0 < 4294967295 → i ≡ s .player .current .0 + 1) →
-      Meets (s .player) r (mainRule ns i player) → Steps (entriesOf ns) s Main (calledBy s r)
+      Meets (s .player) r (mainRule ns i player) → Steps (entriesOf ns) s Main (calledBy s 0 r)
   unfolding W.step worldOf playerOf
   main-steps i r due k =
-      called-steps Main r (mainRule ns i player)
+      called-steps Main 0 r (mainRule ns i player)
       (ap (λ o. called o wd) (rule-here (λ n p. mainRule n (s .player .current .0 + 1) p) ∙ sym (mainRule-due i player due)))
       k (mainRule-count ns i player)
 
   module _ (w : ℕ) (r : Played) where
     pub catch-steps : (t : Term) (i : ℕ) → t ≡ windowAt w player .term → i ≡ dueIn (windowAt w player .condition) →
-        Meets (s .player) r (catchRule ns w t i player) → Steps (entriesOf ns) s (At Catch w) (calledBy s r)
+        Meets (s .player) r (catchRule ns w t i player) → Steps (entriesOf ns) s (At Catch w) (calledBy s w r)
     unfolding W.step catchRule
     catch-steps t i current due k =
-        called-steps (At Catch w) r (catchRule ns w t i player)
+        called-steps (At Catch w) w r (catchRule ns w t i player)
         (ap (λ v. W.step (W.catch w (v .term) (dueIn (v .condition))) wd) (view-here w)
         ∙ ap₂ (λ t i. W.step (W.catch w t i) wd) (sym current) (sym due)
         ∙ ap (λ o. called o wd) (rule-here (λ n p. catchRule n w t i p)))
         k (operate-count ns w _ player)
 
     pub written-steps : (t : Term) → t ≡ windowAt w player .term → Meets (s .player) r (writtenRule ns w t player) →
-        Steps (entriesOf ns) s (At Written w) (calledBy s r)
+        Steps (entriesOf ns) s (At Written w) (calledBy s w r)
     unfolding W.step writtenRule
     written-steps t current k =
-        called-steps (At Written w) r (writtenRule ns w t player)
+        called-steps (At Written w) w r (writtenRule ns w t player)
         (ap (λ v. W.step (W.written w (v .term)) wd) (view-here w)
         ∙ ap (λ t. W.step (W.written w t) wd) (sym current)
         ∙ ap (λ o. called o wd) (rule-here (λ n p. writtenRule n w t p)))
         k (operate-count ns w _ player)
 
-    pub drop-steps : Meets (s .player) r (dropRule ns w player) → Steps (entriesOf ns) s (At Drop w) (calledBy s r)
+    pub drop-steps : Meets (s .player) r (dropRule ns w player) → Steps (entriesOf ns) s (At Drop w) (calledBy s w r)
     unfolding W.step dropRule
     drop-steps k =
-        called-steps (At Drop w) r (dropRule ns w player)
+        called-steps (At Drop w) w r (dropRule ns w player)
         (ap (λ o. called o wd) (rule-here (λ n p. dropRule n w p)))
         k (operate-count ns w _ player)

@@ -9,6 +9,9 @@ pub mod Calls
 pub mod Settled
 pub mod Takes
 pub mod Sends
+pub mod Played
+pub mod Refused
 pub mod Opening
 pub mod Room
 pub mod Shown
+pub mod Delivered

@@ -20,7 +20,7 @@ use Rattle.rules.specs.Window.{started}
 use Rattle.rules.specs.Rules.{refuse, areReports, least, startRule}
 use Rattle.rules.specs.Offers.{startNext, startRule-done}
 use Rattle.window.specs.Promise.{numberOf}
-use Rattle.player.specs.Promise.{Meets}
+use Rattle.player.specs.Promise.{Starts}
 use Rattle.delivery.specs.World.{World, newSide, opened}
 use Rattle.delivery.specs.Statement.{firstStart}
 use Rattle.script.specs.declared.Stage.{Stage}
@@ -38,12 +38,14 @@ abbrev pub noWorld : List Entry → World
 noWorld j = record { journal = j; limit = 0; current = 0; sides = [] }
 
 -- The stage is opened where the first Start is answered 0, and is then the world after it, whatever a player held before; where it is not
--- opened it has no windows
+-- opened it has no windows; it has sixteen records and lines in any case
 pub record Opens (ns : List ℕ) (count : ℕ) (r : Opened) : Type 0 where
   pub ok : (before : PlayerView) → r .ok ≡ eqb (startRule ns count 2 (replicate count 0) before .answer) 0
   pub world : (before : PlayerView) → r .ok ≡ true →
       worldOf (entriesOf ns) (r .stage) ≡ opened (entriesOf ns) (firstStart before (entriesOf ns) count 2)
   pub shut : r .ok ≡ false → worldOf (entriesOf ns) (r .stage) ≡ noWorld (entriesOf ns)
+  pub records : length (r .stage .records) ≡ 16
+  pub lines : length (r .stage .lines) ≡ 16
 
 -- ------------------------------------------------------------------------
 -- sidesOf
@@ -110,11 +112,13 @@ module _ (ns : List ℕ) (count : ℕ) where
     ok = λ before. sym (ap (λ o. eqb (o .answer) 0) (startRule-over ns count 2 (replicate count 0) before h));
     world = λ before e. absurd (true≢false (sym e));
     shut = λ e. shut-world (entriesOf ns) p b;
+    records = refl;
+    lines = refl;
   }
 
   pub opens-start : (p : Player) → playerOf p ≡ noPlayer → (r : Played) (reports : List ℕ) → count ≤ 16 →
       reports ≡ take {A = ℕ} count (replicate 16 0) →
-      Meets p r (startRule ns count 2 reports (playerOf p)) →
+      Starts p count 2 reports r (startRule ns count 2 reports (playerOf p)) →
       Opens ns count (record { ok = eqb (numberOf (r .answer)) 0; stage = aroundPlayer (r .player) })
   unfolding worldOf opened
   opens-start p b r reports h e k =
@@ -137,4 +141,6 @@ module _ (ns : List ℕ) (count : ℕ) where
         shut = λ z.
             ap (λ q. worldOf (entriesOf ns) (aroundPlayer q)) (k .unchanged (λ n. eqb-false _ _ z (k .answer ∙ n)))
             ∙ shut-world (entriesOf ns) p b;
+        records = refl;
+        lines = refl;
       }

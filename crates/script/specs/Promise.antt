@@ -2,13 +2,16 @@
 use Prim.Native.Nat.{ℕ, _≤_}
 use mathlib.Core.Path.{_≡_}
 use mathlib.Core.List.{List}
-use mathlib.Core.Bool.{Bool, true, false, _&&_}
+use mathlib.Core.Bool.{Bool, true, false, not, _&&_, _||_}
+use lib.ListN.{length}
+use lib.Dec.{eqb}
 use Rattle.journal.specs.declared.Entry.{Entry}
 use Rattle.journal.specs.Entry.{inShape, entriesOf}
 use Rattle.delivery.specs.World as W
 use Rattle.script_line.specs.declared.Step.{Step}
 use Rattle.script.specs.declared.Stage.{Stage}
-use Rattle.script.specs.declared.Reply.the-variants.{Answered}
+use Rattle.script.specs.declared.Reply.{Reply}
+use Rattle.script.specs.declared.Reply.the-variants.{Answered, Empty}
 use Rattle.script.specs.declared.Stepped.{Stepped}
 use Rattle.script.specs.Stage.{worldOf, forgotten, stepIn, replyOf, lineAt, fits}
 
@@ -31,7 +34,16 @@ pub record Steps (j : List Entry) (before : Stage) (s : Step) (r : Stepped) : Ty
   pub reply : replyOf (r .reply) ≡ W.step (stepIn (worldOf j before) s) (worldOf j before) .reply
   pub world : worldOf j (r .stage) ≡ forgotten (W.step (stepIn (worldOf j before) s) (worldOf j before) .world)
 
--- where the journal is in shape and the stage fits, the step is the world's; where not, the answer is 1 and nothing changes
+-- a refusal of the player, or nothing on the line; 15 is Take's own, and its entry is off the line all the same
+abbrev pub isRefusal : Reply → Bool
+isRefusal (Answered n) = not (eqb n 0 || eqb n 15)
+isRefusal Empty = true
+
+-- where the journal is in shape and the stage fits, the step is the world's; where not, the answer is 1 and nothing changes; a refusal
+-- gives back the stage handed in, whole; and sixteen records and lines stay sixteen
 pub record Plays (ns : List ℕ) (before : Stage) (s : Step) (r : Stepped) : Type 0 where
   pub played : playable ns before s ≡ true → Steps (entriesOf ns) before s r
   pub stuck : playable ns before s ≡ false → r ≡ record { reply = Answered 1; stage = before }
+  pub refused : isRefusal (r .reply) ≡ true → r .stage ≡ before
+  pub records : length (r .stage .records) ≡ 16
+  pub lines : length (r .stage .lines) ≡ 16

@@ -6,7 +6,7 @@ use mathlib.Core.List.{List, [], _∷_, _++_, map, map-append}
 use mathlib.Core.Bool.{Bool, true, false, true≢false}
 use native.Mathlib.Omega.{arith}
 use borrow.Author.Tests.{eq-eqb, ne-eqb, leb-true}
-use lib.ListN.{length, getD, take, drop, replicate}
+use lib.ListN.{length, take, drop, replicate}
 use lib.Dec.{leb}
 use Rattle.journal.specs.declared.Entry.{Entry}
 use Rattle.lists.specs.Cases.{le-or-lt, and-left, and-right, and-intro}
@@ -21,16 +21,17 @@ use Rattle.rules.specs.Rules.{windowAt, sendRule, batchNumbers, batchAt, sendOu
 use Rattle.player.specs.declared.Played.{Played}
 use Rattle.player.specs.View.{playerOf}
 use Rattle.player.specs.Promise.{Meets}
+use Rattle.window.specs.Promise.{numberOf}
 use Rattle.delivery.specs.World.{Side, World, sideAt, playerIn, withLines, onLine, calledThen}
 use Rattle.delivery.specs.World as W
 use Rattle.script_line.specs.declared.Step.the-variants.{At}
 use Rattle.script_line.specs.declared.Verb.the-variants.{Send}
-use Rattle.script.specs.declared.line.Line.{Line}
+use Rattle.script.specs.declared.settle.Settled.{Settled}
 use Rattle.script.specs.declared.Stage.{Stage}
 use Rattle.script.specs.Line.{sentOf, ackOf, sentIn, acksIn, batchShown, Grown}
 use Rattle.script.specs.Stage.{worldOf, lineAt}
 use Rattle.script.specs.Promise.{Steps}
-use Rattle.script.specs.Stored.{settledBy}
+use Rattle.script.specs.Stored.{sideIn, Relined, storedBy}
 use Rattle.script.specs.Worlds.{playerOf-count, changed, Staged, worldOf-player, worldOf-side}
 use Rattle.script.specs.Calls.{rule-here}
 use Rattle.script.specs.Settled.{line-here, back-here, lines-side, settled-steps}
@@ -109,28 +110,29 @@ module _ (ns : List ℕ) (s : Stage) (h : Staged s) (e : inShape ns ≡ true) (w
   abbrev player : PlayerView
   player = playerOf (s .player)
 
-  pub send-steps : (r : Played) (out : List ℕ) (t : Term) (l : Line) → Meets (s .player) r (sendRule ns w 10 player) →
-      out ≡ sendOutput ns w (replicate 10 0) player → t ≡ windowAt w player .term → Grown (lineAt w s) (batchShown out t) l →
-      Steps j s (At Send w) (settledBy s r w l)
+  pub send-steps : (r : Played) (x : Settled) (out : List ℕ) → Meets (s .player) r (sendRule ns w 10 player) →
+      out ≡ sendOutput ns w (replicate 10 0) player →
+      Relined (sideIn w s) (numberOf (r .answer)) (Grown (lineAt w s) (batchShown out (windowAt w player .term))) x →
+      Steps j s (At Send w) (storedBy s w (r .player) x)
   unfolding W.step worldOf
-  send-steps r out t l k written current grown =
-      let own : Term = sideAt w wd .view .term in
-      let batch : List W.Sent = onLine j own (batchAt w (playerIn wd)) in
+  send-steps r x out k written own =
+      let t : Term = windowAt w player .term in
+      let batch : List W.Sent = onLine j (sideAt w wd .view .term) (batchAt w (playerIn wd)) in
       let g : Side → Side = λ p. withLines (p .line ++ batch) (p .back) p in
-      settled-steps j s h (At Send w) w r (sendRule ns w 10 player) l g
+      settled-steps j s h (At Send w) w r (sendRule ns w 10 player) x g
       (ap (λ o. calledThen o (changed w g) wd) (rule-here ns s h e (λ n p. sendRule n w 10 p)))
-      k
-      (λ z.
+      k own
+      (λ z grown.
       let d = sendRule-done ns w 10 player z in
       let shown : map sentOf (batchShown out t) ≡ batch
       = ap (λ out. map sentOf (batchShown out t)) written
       ∙ sendOutput-onLine ns w player t z
-      ∙ ap₂ (onLine j) (current ∙ sym (ap (λ p. p .view .term) (worldOf-side j s h w))) (sym (ap (batchAt w) (worldOf-player j s h))) in
+      ∙ ap₂ (onLine j) (sym (ap (λ p. p .view .term) (worldOf-side j s h w))) (sym (ap (batchAt w) (worldOf-player j s h))) in
       record {
         within = omega (arith, d .within, playerOf-count (s .player));
         view = _;
         next = d .next;
-        side = lines-side j s h w _ l (sideAt w wd .line ++ batch) (sideAt w wd .back)
+        side = lines-side j s h w _ (x .line) (sideAt w wd .line ++ batch) (sideAt w wd .back)
             (ap (map sentOf) (grown .entries) ∙ map-append sentOf (sentIn (lineAt w s .entries)) (batchShown out t)
             ∙ ap₂ _++_ (sym (line-here j s h w)) shown)
             (ap (λ a. map ackOf (acksIn a)) (grown .acks) ∙ sym (back-here j s h w));

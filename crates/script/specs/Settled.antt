@@ -5,7 +5,7 @@ use mathlib.Core.Logic.{⊎-elim}
 use mathlib.Core.List.{List, [], _∷_, map}
 use mathlib.Core.Bool.{Bool, true, false, cond}
 use native.Mathlib.Omega.{arith}
-use borrow.Author.Tests.{eq-eqb, ne-eqb, lt-ltb, ltb-true}
+use borrow.Author.Tests.{lt-ltb, ltb-true}
 use lib.ListN.{length, drop}
 use lib.Dec.{ltb}
 use Rattle.journal.specs.declared.Entry.{Entry}
@@ -17,6 +17,7 @@ use Rattle.rules.specs.Offers.{ackRule-done, joinRule-done}
 use Rattle.player.specs.declared.Played.{Played}
 use Rattle.player.specs.View.{playerOf}
 use Rattle.player.specs.Promise.{Meets}
+use Rattle.window.specs.Promise.{numberOf}
 use Rattle.delivery.specs.World.{Side, World, sideAt, numbersIn, playerIn, withView, withLines, answered, calledThen, takeAtLine, ackAtLine, cleared}
 use Rattle.delivery.specs.World as W
 use Rattle.delivery.specs.Worlds.{withPlayer-same}
@@ -26,14 +27,15 @@ use Rattle.script_line.specs.declared.Step.the-variants.{At}
 use Rattle.script_line.specs.declared.Verb.the-variants.{Ack, Join, Take}
 use Rattle.script.specs.declared.line.Ack as declared
 use Rattle.script.specs.declared.line.Line.{Line}
+use Rattle.script.specs.declared.settle.Settled.{Settled}
 use Rattle.script.specs.declared.Stage.{Stage}
 use Rattle.script.specs.declared.Reply.the-variants.{Answered, Empty}
 use Rattle.lists.specs.Cells.{front}
 use Rattle.script.specs.Line.{sentOf, ackOf, sentIn, acksIn, freshLine, AckedOff, sentIn-none, acksIn-none}
 use Rattle.script.specs.Stage.{sideOf, worldOf, forget, forgotten, stepIn, recordAt, lineAt}
 use Rattle.script.specs.Promise.{Steps}
-use Rattle.script.specs.Stored.{withLine, calledBy, settledBy, nothingAt}
-use Rattle.script.specs.Worlds.{playerOf-count, changed, worldOf-forgotten, worldOf-count, Staged, worldOf-player, worldOf-side, worldOf-turned}
+use Rattle.script.specs.Stored.{sideIn, Relined, storedAt, storedBy, emptyAt}
+use Rattle.script.specs.Worlds.{playerOf-count, changed, worldOf-forgotten, worldOf-count, Staged, worldOf-player, worldOf-side, storedAt-same, worldOf-turned}
 use Rattle.script.specs.Calls.{steps-as, rule-here}
 
 -- a line that is not empty is a window's
@@ -80,23 +82,26 @@ module _ (j : List Entry) (s : Stage) (h : Staged s) where
 
   nothing-steps : (st : Step) (w : ℕ) →
       W.step (stepIn wd st) wd ≡ cond (ltb w (length (wd .sides))) (W.stays W.empty wd) (W.stays (answered 2) wd) →
-      Steps j s st (nothingAt w s)
+      Steps j s st (emptyAt s w)
   nothing-steps st w is =
       by (ltb w (s .player .count)) (is ∙ ap (λ n. cond (ltb w n) (W.stays W.empty wd) (W.stays (answered 2) wd)) (worldOf-count j s))
     where
-      by : (b : Bool) → W.step (stepIn wd st) wd ≡ cond b (W.stays W.empty wd) (W.stays (answered 2) wd) →
-          Steps j s st (record { reply = cond b Empty (Answered 2); stage = s })
-      by true e = steps-as j s st (W.stays W.empty wd) _ e refl (sym (worldOf-forgotten j s))
-      by false e = steps-as j s st (W.stays (answered 2) wd) _ e refl (sym (worldOf-forgotten j s))
+      same : worldOf j (emptyAt s w .stage) ≡ forgotten wd
+      same = ap (worldOf j) (storedAt-same s w (s .player)) ∙ sym (worldOf-forgotten j s)
 
-  pub take-nothing : (w : ℕ) → lineAt w s .entries .len ≡ 0 → Steps j s (At Take w) (nothingAt w s)
+      by : (b : Bool) → W.step (stepIn wd st) wd ≡ cond b (W.stays W.empty wd) (W.stays (answered 2) wd) →
+          Steps j s st (record { reply = cond b Empty (Answered 2); stage = emptyAt s w .stage })
+      by true e = steps-as j s st (W.stays W.empty wd) _ e refl same
+      by false e = steps-as j s st (W.stays (answered 2) wd) _ e refl same
+
+  pub take-nothing : (w : ℕ) → lineAt w s .entries .len ≡ 0 → Steps j s (At Take w) (emptyAt s w)
   unfolding W.step
   take-nothing w none =
       nothing-steps (At Take w) w
       (ap (λ l. cond (ltb w (length (wd .sides))) (takeAtLine w l wd) (W.stays (answered 2) wd))
       (line-here w ∙ ap (map sentOf) (sentIn-none (lineAt w s .entries) none)))
 
-  pub ack-nothing : (w : ℕ) → lineAt w s .acks .len ≡ 0 → Steps j s (At Ack w) (nothingAt w s)
+  pub ack-nothing : (w : ℕ) → lineAt w s .acks .len ≡ 0 → Steps j s (At Ack w) (emptyAt s w)
   unfolding W.step
   ack-nothing w none =
       nothing-steps (At Ack w) w
@@ -104,35 +109,38 @@ module _ (j : List Entry) (s : Stage) (h : Staged s) where
       (back-here w ∙ ap (map ackOf) (acksIn-none (lineAt w s .acks) none)))
 
   -- ------------------------------------------------------------------------
-  -- settledBy
+  -- Relined
 
   -- refused, nothing changes; answered 0, the stage shows what the world's change gives
-  pub settled-steps : (st : Step) (w : ℕ) (r : Played) (o : Outcome) (l : Line) (g : Side → Side) →
-      W.step (stepIn wd st) wd ≡ calledThen o (changed w g) wd →
-      Meets (s .player) r o → (o .answer ≡ 0 → Turned j s w o g l) → Steps j s st (settledBy s r w l)
-  settled-steps st w r o l g is k done = ⊎-elim yes no (eq-or-ne (o .answer) 0)
+  pub settled-steps : (st : Step) (w : ℕ) (r : Played) (o : Outcome) (x : Settled) (g : Side → Side) {after : Line → Type 0} →
+      W.step (stepIn wd st) wd ≡ calledThen o (changed w g) wd → Meets (s .player) r o →
+      Relined (sideIn w s) (numberOf (r .answer)) after x → (o .answer ≡ 0 → after (x .line) → Turned j s w o g (x .line)) →
+      Steps j s st (storedBy s w (r .player) x)
+  settled-steps st w r o x g is k own turned =
+      rw (own .is) (steps-as j s st _ _ is (ap answered (k .answer)) (⊎-elim yes no (eq-or-ne (o .answer) 0)))
     where
-      yes : o .answer ≡ 0 → Steps j s st (settledBy s r w l)
-      yes z =
-          let d = done z in
-          rw (eq-eqb _ 0 (k .answer ∙ z))
-          (steps-as j s st _ (calledBy (withLine w l s) r) is (ap answered (k .answer))
-          (worldOf-turned j s h w (r .player) (o .next) (d .view) l g (d .within) (k .next) (d .next) (d .side)
-          ∙ sym (ap forgotten (calledThen-done o (changed w g) wd z))))
+      after : Stage
+      after = storedAt w (r .player) (recordAt w s) (x .line) s
 
-      no : (o .answer ≡ 0 → ⊥) → Steps j s st (settledBy s r w l)
+      yes : o .answer ≡ 0 → worldOf j after ≡ forgotten (calledThen o (changed w g) wd .world)
+      yes z =
+          let d = turned z (own .done (k .answer ∙ z)) in
+          worldOf-turned j s h w (r .player) (o .next) (d .view) (x .line) g (d .within) (k .next) (d .next) (d .side)
+          ∙ sym (ap forgotten (calledThen-done o (changed w g) wd z))
+
+      no : (o .answer ≡ 0 → ⊥) → worldOf j after ≡ forgotten (calledThen o (changed w g) wd .world)
       no n =
           let same : o .next ≡ playerIn wd = sym (k .next) ∙ ap playerOf (k .unchanged n) ∙ sym (worldOf-player j s h) in
-          rw (ne-eqb _ 0 (λ z. n (sym (k .answer) ∙ z)))
-          (steps-as j s st _ (calledBy s r) is (ap answered (k .answer))
-          (ap (λ p. worldOf j (record { player = p; records = s .records; lines = s .lines })) (k .unchanged n)
+          ap (λ l. worldOf j (storedAt w (r .player) (recordAt w s) l s)) (own .refused (λ z. n (sym (k .answer) ∙ z)))
+          ∙ ap (worldOf j) (storedAt-same s w (r .player))
+          ∙ ap (λ p. worldOf j (record { player = p; records = s .records; lines = s .lines })) (k .unchanged n)
           ∙ sym (worldOf-forgotten j s)
-          ∙ sym (ap forgotten (calledThen-refused o (changed w g) wd n ∙ withPlayer-same wd (o .next) same))))
+          ∙ sym (ap forgotten (calledThen-refused o (changed w g) wd n ∙ withPlayer-same wd (o .next) same))
 
 -- ------------------------------------------------------------------------
 -- Join, Ack
 
-module _ (ns : List ℕ) (s : Stage) (h : Staged s) (e : inShape ns ≡ true) (w : ℕ) (r : Played) where
+module _ (ns : List ℕ) (s : Stage) (h : Staged s) (e : inShape ns ≡ true) (w : ℕ) (r : Played) (x : Settled) where
   abbrev here : World
   here = worldOf (entriesOf ns) s
 
@@ -140,42 +148,42 @@ module _ (ns : List ℕ) (s : Stage) (h : Staged s) (e : inShape ns ≡ true) (w
   player = playerOf (s .player)
 
   pub join-steps : Meets (s .player) r (joinRule ns w (recordAt w s .last .0) player) →
-      Steps (entriesOf ns) s (At Join w) (settledBy s r w freshLine)
+      Relined (sideIn w s) (numberOf (r .answer)) (λ l. l ≡ freshLine) x → Steps (entriesOf ns) s (At Join w) (storedBy s w (r .player) x)
   unfolding W.step sentIn acksIn front
-  join-steps k =
+  join-steps k own =
       let last : ℕ = recordAt w s .last .0 in
-      settled-steps (entriesOf ns) s h (At Join w) w r (joinRule ns w last player) freshLine cleared
-      (ap (λ x. calledThen (joinRule (numbersIn here) w (x .last .0) (playerIn here)) (changed w cleared) here)
+      settled-steps (entriesOf ns) s h (At Join w) w r (joinRule ns w last player) x cleared
+      (ap (λ own. calledThen (joinRule (numbersIn here) w (own .last .0) (playerIn here)) (changed w cleared) here)
       (record-here (entriesOf ns) s h w)
       ∙ ap (λ o. calledThen o (changed w cleared) here) (rule-here ns s h e (λ n p. joinRule n w last p)))
-      k
-      (λ z.
+      k own
+      (λ z fresh.
       let d = joinRule-done ns w last player z in
       record {
         within = omega (arith, d .within, playerOf-count (s .player));
         view = _;
         next = d .next;
-        side = lines-side (entriesOf ns) s h w _ freshLine [] [] refl refl;
+        side = rw fresh (lines-side (entriesOf ns) s h w _ freshLine [] [] refl refl);
       })
 
   -- Ack with the front ack, and the line without it
-  pub ack-steps : (x : declared.Ack) (rest : List declared.Ack) (l : Line) → w < s .player .count → acksIn (lineAt w s .acks) ≡ x ∷ rest →
-      Meets (s .player) r (ackRule ns w (x .term) (x .index .0) player) → AckedOff (lineAt w s) l →
-      Steps (entriesOf ns) s (At Ack w) (settledBy s r w l)
+  pub ack-steps : (front : declared.Ack) (rest : List declared.Ack) → w < s .player .count → acksIn (lineAt w s .acks) ≡ front ∷ rest →
+      Meets (s .player) r (ackRule ns w (front .term) (front .index .0) player) →
+      Relined (sideIn w s) (numberOf (r .answer)) (AckedOff (lineAt w s)) x → Steps (entriesOf ns) s (At Ack w) (storedBy s w (r .player) x)
   unfolding W.step
-  ack-steps x rest l within front k off =
+  ack-steps front rest within is k own =
       let j : List Entry = entriesOf ns in
       let acks : List W.Ack = map ackOf rest in
       let g : Side → Side = λ p. withLines (p .line) acks p in
       let there : w < length (here .sides) = omega (arith, worldOf-count j s) in
-      settled-steps j s h (At Ack w) w r (ackRule ns w (x .term) (x .index .0) player) l g
-      (simp (lt-ltb w (length (here .sides)) there) (ap (λ b. ackAtLine w b here) (back-here j s h w ∙ ap (map ackOf) front))
-      ∙ ap (λ o. calledThen o (changed w g) here) (rule-here ns s h e (λ n p. ackRule n w (x .term) (x .index .0) p)))
-      k
-      (λ z. record {
+      settled-steps j s h (At Ack w) w r (ackRule ns w (front .term) (front .index .0) player) x g
+      (simp (lt-ltb w (length (here .sides)) there) (ap (λ b. ackAtLine w b here) (back-here j s h w ∙ ap (map ackOf) is))
+      ∙ ap (λ o. calledThen o (changed w g) here) (rule-here ns s h e (λ n p. ackRule n w (front .term) (front .index .0) p)))
+      k own
+      (λ z off. record {
         within = within;
         view = _;
-        next = ackRule-done ns w (x .term) (x .index .0) player z .next;
-        side = lines-side j s h w _ l (sideAt w here .line) acks
-            (ap (λ e. map sentOf (sentIn e)) (off .entries) ∙ sym (line-here j s h w)) (ap (map ackOf) (off .acks ∙ ap (drop 1) front));
+        next = ackRule-done ns w (front .term) (front .index .0) player z .next;
+        side = lines-side j s h w _ (x .line) (sideAt w here .line) acks
+            (ap (λ e. map sentOf (sentIn e)) (off .entries) ∙ sym (line-here j s h w)) (ap (map ackOf) (off .acks ∙ ap (drop 1) is));
       })

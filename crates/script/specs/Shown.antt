@@ -176,7 +176,7 @@ module _ (j : List Entry) (s : Stage) (wd : World) (shows : worldOf j s ≡ forg
 
   -- where the world has room, every step fits
   module _ (r : Roomy wd) (records : length (s .records) ≡ 16) (lines : length (s .lines) ≡ 16) where
-    shown-few : s .player .count ≤ 16
+    pub shown-few : s .player .count ≤ 16
     shown-few = omega (arith, shown-count, shaped (numbersIn wd) (playerIn wd) (r .reached .inShape) .most, windows-in wd)
 
     shown-room : (w : ℕ) → (length (sideAt w wd .line) ≤ 16) × (length (sideAt w wd .back) ≤ 8)

@@ -5,31 +5,32 @@ use mathlib.Core.List.{List, [], _∷_, _++_, map, map-append}
 use mathlib.Core.Bool.{Bool, true, false, cond}
 use native.Mathlib.Omega.{arith}
 use borrow.Author.Tests.{lt-ltb}
-use lib.ListN.{length, drop}
+use lib.ListN.{length, getD, drop}
 use lib.Seq.{set-getD}
 use Rattle.journal.specs.declared.Entry.{Entry}
 use Rattle.journal.specs.Entry.{fiveOf}
 use Rattle.record.specs.declared.Record.{Record}
-use Rattle.record.specs.declared.Taken.{Taken}
-use Rattle.record.specs.Record.{outcomeOf, takeNumbers}
+use Rattle.record.specs.Record.{takeNumbers}
 use Rattle.rules.specs.View.{WindowView, PlayerView, noWindow}
 use Rattle.rules.specs.Rules.{windowAt, withWindow}
 use Rattle.player.specs.View.{playerOf}
-use Rattle.delivery.specs.World.{Side, World, sideAt, withSide, takeFront, answered, takeAtLine}
+use Rattle.delivery.specs.World.{World, sideAt, withSide, takeFront, answered, takeAtLine}
 use Rattle.delivery.specs.World as W
 use Rattle.script_line.specs.declared.Step.the-variants.{At}
 use Rattle.script_line.specs.declared.Verb.the-variants.{Take}
 use Rattle.script.specs.declared.line.Sent.{Sent}
 use Rattle.script.specs.declared.line.Ack.{Ack}
 use Rattle.script.specs.declared.line.Line.{Line}
+use Rattle.script.specs.declared.side.Side.{Side}
+use Rattle.script.specs.declared.settle.Settled.{Settled}
 use Rattle.script.specs.declared.Stage.{Stage}
-use Rattle.script.specs.Line.{placedOf, sentOf, ackOf, sentIn, acksIn, ackFor, TakenOff}
-use Rattle.script.specs.Stage.{sideOf, worldOf, forget, recordAt, lineAt}
+use Rattle.script.specs.Line.{placedOf, noSent, sentOf, ackOf, sentIn, acksIn, ackFor, TakenOff, sentIn-first}
+use Rattle.script.specs.Stage.{sideOf, worldOf, forget, replyOf, lineAt}
 use Rattle.script.specs.Promise.{Steps}
-use Rattle.script.specs.Stored.{tookBy}
+use Rattle.script.specs.Stored.{sideIn, Takes, storedBy}
 use Rattle.script.specs.Worlds.{worldOf-count, worldOf-forgets, Staged, worldOf-side, worldOf-placed}
 use Rattle.script.specs.Calls.{steps-as}
-use Rattle.script.specs.Settled.{line-here}
+use Rattle.script.specs.Settled.{lineAt-within, line-here}
 
 -- the window that is there changes nothing
 window-same : (w : ℕ) (p : PlayerView) → p ≡ withWindow w (windowAt w p) p
@@ -42,36 +43,40 @@ ackOf-taken x acks true = map-append ackOf acks (ackFor x ∷ [])
 ackOf-taken x acks false = refl
 
 -- a window's side once its front entry is taken
-sideOf-taken : (v : WindowView) (own : Record) (l l′ : Line) (x : Sent) (rest : List Sent) (r : Taken) → sentIn (l .entries) ≡ x ∷ rest →
-    outcomeOf r ≡ takeNumbers (fiveOf (placedOf (x .numbers))) own → TakenOff l x l′ →
-    sideOf v (r .record) l′ ≡ forget (takeFront (sentOf x) (map sentOf rest) (sideOf v own l))
+sideOf-taken : (v : WindowView) (x : Side) (own : Record) (l : Line) (sent : Sent) (rest : List Sent) →
+    sentIn (x .line .entries) ≡ sent ∷ rest →
+    own ≡ takeNumbers (fiveOf (placedOf (sent .numbers))) (x .record) .record′ → TakenOff (x .line) sent l →
+    sideOf v own l ≡ forget (takeFront (sentOf sent) (map sentOf rest) (sideOf v (x .record) (x .line)))
 unfolding takeFront
-sideOf-taken v own l l′ x rest r front o off =
-    ap₂ (λ a b. record { view = v; record′ = r .record; line = a; back = b; taken = [] })
-    (ap (map sentOf) (off .entries ∙ ap (drop 1) front)) (ap (map ackOf) (off .acks) ∙ ackOf-taken x (acksIn (l .acks)) (x .ends))
-    ∙ ap (λ o. record {
+sideOf-taken v x own l sent rest front o off =
+    ap₂ (λ a b. record { view = v; record′ = own; line = a; back = b; taken = [] })
+    (ap (map sentOf) (off .entries ∙ ap (drop 1) front))
+    (ap (map ackOf) (off .acks) ∙ ackOf-taken sent (acksIn (x .line .acks)) (sent .ends))
+    ∙ ap (λ r. record {
       view = v;
-      record′ = o .record′;
+      record′ = r;
       line = map sentOf rest;
-      back = cond (x .ends) (map ackOf (acksIn (l .acks)) ++ (ackOf (ackFor x) ∷ [])) (map ackOf (acksIn (l .acks)));
+      back = cond (sent .ends) (map ackOf (acksIn (x .line .acks)) ++ (ackOf (ackFor sent) ∷ [])) (map ackOf (acksIn (x .line .acks)));
       taken = [];
     }) o
 
-pub take-steps : (j : List Entry) (s : Stage) → Staged s → (w : ℕ) (x : Sent) (rest : List Sent) (r : Taken) (l : Line) →
-    w < s .player .count →
-    sentIn (lineAt w s .entries) ≡ x ∷ rest → outcomeOf r ≡ takeNumbers (fiveOf (placedOf (x .numbers))) (recordAt w s) →
-    TakenOff (lineAt w s) x l →
-    Steps j s (At Take w) (tookBy s r w l)
+pub take-steps : (j : List Entry) (s : Stage) → Staged s → (w : ℕ) (r : Settled) → 0 < lineAt w s .entries .len → Takes (sideIn w s) r →
+    Steps j s (At Take w) (storedBy s w (s .player) r)
 unfolding W.step
-take-steps j s h w x rest r l within front o off =
+take-steps j s h w r some k =
     let wd : World = worldOf j s in
     let v : WindowView = windowAt w (playerOf (s .player)) in
+    let sent : Sent = getD (lineAt w s .entries .cells) 0 noSent in
+    let rest : List Sent = drop 1 (sentIn (lineAt w s .entries)) in
+    let front : sentIn (lineAt w s .entries) ≡ sent ∷ rest = sentIn-first (lineAt w s .entries) sent some refl in
+    let within : w < s .player .count = lineAt-within s w (λ l. l .entries .len) refl some in
     let there : w < length (wd .sides) = omega (arith, worldOf-count j s) in
-    let after : Side → Side = takeFront (sentOf x) (map sentOf rest) in
+    let after : W.Side → W.Side = takeFront (sentOf sent) (map sentOf rest) in
     let own = worldOf-side j s h w in
-    steps-as j s (At Take w) (takeAtLine w (map sentOf (x ∷ rest)) wd) (tookBy s r w l)
+    steps-as j s (At Take w) (takeAtLine w (map sentOf (sent ∷ rest)) wd) (storedBy s w (s .player) r)
     (simp (lt-ltb w (length (wd .sides)) there) (ap (λ b. takeAtLine w b wd) (line-here j s h w ∙ ap (map sentOf) front)))
-    (ap (λ o. answered (o .number)) o ∙ ap (λ p. answered (takeNumbers (fiveOf (placedOf (x .numbers))) (p .record′) .number)) (sym own))
-    (worldOf-placed j s h w (s .player) v (r .record) l (window-same w (playerOf (s .player)))
-    ∙ ap (λ p. withSide w p wd) (sideOf-taken v (recordAt w s) (lineAt w s) l x rest r front o off ∙ ap (λ p. forget (after p)) (sym own))
+    (ap replyOf (k .reply) ∙ ap (λ p. answered (takeNumbers (fiveOf (placedOf (sent .numbers))) (p .record′) .number)) (sym own))
+    (worldOf-placed j s h w (s .player) v (r .record) (r .line) within (window-same w (playerOf (s .player)))
+    ∙ ap (λ p. withSide w p wd)
+    (sideOf-taken v (sideIn w s) (r .record) (r .line) sent rest front (k .own) (k .line) ∙ ap (λ p. forget (after p)) (sym own))
     ∙ sym (worldOf-forgets j s w (after (sideAt w wd))))

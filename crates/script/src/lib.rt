@@ -1,9 +1,10 @@
 // A run by script: the player, the windows' records and the lines between them, by value, and one step at a time.
-mod calls;
+mod call;
 mod line;
 mod open;
-mod parts;
 mod play;
+mod settle;
+mod side;
 
 use line::Line;
 use player::Player;
@@ -24,12 +25,12 @@ pub enum Reply {
 
 // A reply beside the stage as it then is.
 pub struct Stepped {
-    pub reply: Reply,
     pub stage: Stage,
+    pub reply: Reply,
 }
 
 // Whether a stage was opened, and the stage.
 pub struct Opened {
-    pub ok: bool,
     pub stage: Stage,
+    pub ok: bool,
 }

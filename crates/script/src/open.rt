@@ -8,7 +8,7 @@ use record::Record;
 use window::Window;
 ghost use mathlib.Core.Path.{_≡_};
 ghost use Rattle.player.specs.View.{playerOf};
-ghost use Rattle.script.specs.Opening.{noPlayer, aroundPlayer, Opens};
+ghost use Rattle.script.specs.Opening.{noPlayer, Opens};
 
 // A player with no windows.
 fn blank() -> Player
@@ -24,21 +24,6 @@ fn blank() -> Player
     }
 }
 
-// New records and empty lines round a player.
-fn around(player: Player) -> Stage
-    ensures { λ r. ⌜ r ≡ aroundPlayer player ⌝ }
-{
-    let record = Record::new();
-    let records = [record; 16];
-    let line = Line::new();
-    let lines = [line; 16];
-    Stage {
-        player,
-        records,
-        lines,
-    }
-}
-
 impl Stage {
     // A stage after a first Start with so many windows, the batch limit 2 and a report of 0 from each; not opened, and with no windows,
     // where that is refused.
@@ -46,10 +31,18 @@ impl Stage {
         ensures { λ r. ⌜ Opens (now (journal .entry)) count r ⌝ }
     {
         let player = blank();
+        let record = Record::new();
+        let records = [record; 16];
+        let line = Line::new();
+        let lines = [line; 16];
         if 16 < count {
             return Opened {
                 ok: false,
-                stage: around(player),
+                stage: Stage {
+                    player,
+                    records,
+                    lines,
+                },
             };
         }
         let reports = [0; 16];
@@ -60,7 +53,11 @@ impl Stage {
         let number = answer.number();
         Opened {
             ok: number == 0,
-            stage: around(next),
+            stage: Stage {
+                player: next,
+                records,
+                lines,
+            },
         }
     }
 }

@@ -1,65 +1,111 @@
--- The proved table of document 01, together as one theorem about the rules. The paper's words stand beside each row.
-use Prim.Native.Nat.{ℕ}
-use mathlib.Core.Path.{_≡_, refl}
-use mathlib.Core.List.{List, [], _∷_}
-use mathlib.Core.Bool.{true, false}
+-- The proved table of document 01, together as one theorem about the rules. The paper's words stand beside each row, and a row holds of any
+-- player and any record of which they are true.
+use Prim.Native.Nat.{ℕ, _+_, _-_, _≤_}
+use mathlib.Core.Path.{_≡_, refl, ap, _∙_}
+use mathlib.Core.List.{List, [], _∷_, _++_}
+use mathlib.Core.Bool.{true, false, or-true}
 use native.Mathlib.Omega.{arith}
-use Rattle.journal.specs.Entry.{entriesOf, numbersOf, entryAt, hasWindow, isFor}
-use Rattle.lists.specs.All.{all}
-use Rattle.record.specs.Record.{raceAfter, racesAfter, recordAfter, takeEntry, takeAll, mayStamp}
-use Rattle.record.specs.Laws.{raceAt, ClosedAs}
-use Rattle.rules.specs.View.{fetching}
-use Rattle.rules.specs.Shape.{windowShape, allWindows, shape}
-use Rattle.rules.specs.Window.{check, enqueue, mainAt, readyIn, batchOf, launched, sendAt, joinAt}
-use Rattle.rules.specs.Rules.{windowAt, operate, mapWindows, mainRule, joinRule, sendRule, batchAt}
+use borrow.Author.Tests.{lt-ltb, le-ltb, eq-eqb, ne-eqb}
+use lib.ListN.{length, take, drop}
+use lib.Dec.{eqb}
+use Rattle.journal.specs.Entry.{Placed, numbersOf, entriesOf, entry4}
+use Rattle.record.specs.declared.Record.{Record}
+use Rattle.record.specs.Record.{takeEntry, takeNumbers, mayStamp}
+use Rattle.record.specs.Laws.{raceAt, ClosedAs, takeEntry-closed, takeEntry-post-closed, takeNumbers-placed, mayStamp-closed}
+use Rattle.rules.specs.View.{normal, fetching, WindowView, PlayerView}
+use Rattle.rules.specs.Shape.{shape}
+use Rattle.rules.specs.Window.{isSuspended, isReport, joined}
+use Rattle.rules.specs.Rules.{windowAt, mainRule, joinRule, sendRule, batchAt}
+use Rattle.rules.specs.Offers.{shaped, operated-at, mainRule-refusals, sendRule-refusals, joinRule-refusals, mainAt-room, mainAt-normal, readyOf, launched-ready, sendRule-done, joinRule-done, joinRule-can}
 use Rattle.journal_text.specs.Text.{header}
 use Rattle.journal_text.specs.Scan.{scan}
 use Rattle.journal_text.specs.Answers.{answer}
 use Rattle.journal_text.specs.AnswerLaws.{Reads, reads-good, reads-bad}
-use Rattle.delivery.specs.Examples.{RunA, row-a}
-use Rattle.table.specs.States.{entriesFor0, countUp, oneWindow, queueing, outEight, away, posted, postedClosed, postedClosedPosted}
+use Rattle.table.specs.Run.{RunA, row-a}
+use Rattle.table.specs.States.{OneMore, oneMore-wanted, oneMore-window, EightOut, eightOut-within, eightOut-here, MoreReady, moreReady-taken, moreReady-length, moreReady-answer, Away, OpenUntil, openUntil-stamps}
 
 pub record ProvedTable : Type 0 where
   -- (a) The run above.
-  pub a : RunA
+  pub a : (before : PlayerView) → RunA before
   -- (b) Empty journal: Main gives 4.
-  pub b : mainRule [] 1 (oneWindow 0 (queueing [])) .answer ≡ 4
-  -- (c) 128 queued, one more Main entry: Fetching.
-  pub c : windowAt 0 (mainRule (entriesFor0 129) 129 (oneWindow 128 (queueing (countUp 128))) .next) .condition ≡ fetching 129 129
+  pub b : (i : ℕ) (p : PlayerView) → shape [] p ≡ true → mainRule [] i p .answer ≡ 4
+  -- (c) 128 queued, one more Main entry: Fetching. The 128 are then in the catch-up queue.
+  pub c : (ns : List ℕ) (p : PlayerView) (w : ℕ) → OneMore ns p w 128 →
+      let i : ℕ = p .current + 1 in
+      let after : WindowView = windowAt w (mainRule ns i p .next) in
+      (after .condition ≡ fetching i i) × (after .catchQueue ≡ windowAt w p .normalQueue) × (after .normalQueue ≡ [])
   -- (d) 127 queued, one more: Normal.
-  pub d : windowAt 0 (mainRule (entriesFor0 128) 128 (oneWindow 127 (queueing (countUp 127))) .next) ≡ queueing (countUp 128)
+  pub d : (ns : List ℕ) (p : PlayerView) (w : ℕ) → OneMore ns p w 127 →
+      let i : ℕ = p .current + 1 in
+      let after : WindowView = windowAt w (mainRule ns i p .next) in
+      (after .condition ≡ normal) × (after .normalQueue ≡ windowAt w p .normalQueue ++ (i ∷ []))
   -- (e) Eight batches out, line free: Send 9.
-  pub e : sendRule (entriesFor0 9) 0 160 (oneWindow 9 outEight) .answer ≡ 9
-  -- (f) Limit 32 with 33 ready: 32 go.
-  pub f : (sendRule (entriesFor0 33) 0 160 (oneWindow 33 (queueing (countUp 33))) .answer ≡ 0)
-      × (batchAt 0 (oneWindow 33 (queueing (countUp 33))) ≡ countUp 32)
-      × (windowAt 0 (sendRule (entriesFor0 33) 0 160 (oneWindow 33 (queueing (countUp 33))) .next) .normalQueue ≡ 33 ∷ [])
-  -- (g) Report equal to sent: joined; sent + 1: 13.
-  pub g : (joinRule (entriesFor0 9) 0 5 (oneWindow 9 (away 3 5)) .answer ≡ 0)
-      × (windowAt 0 (joinRule (entriesFor0 9) 0 5 (oneWindow 9 (away 3 5)) .next) .condition ≡ fetching 6 9)
-      × (joinRule (entriesFor0 9) 0 6 (oneWindow 9 (away 3 5)) .answer ≡ 13)
+  pub e : (ns : List ℕ) (p : PlayerView) (w size : ℕ) → EightOut ns p w → sendRule ns w size p .answer ≡ 9
+  -- (f) Limit 32 with 33 ready: 32 go. They are the first, and the rest stays ready.
+  pub f : (ns : List ℕ) (p : PlayerView) (w size : ℕ) → MoreReady ns p w size →
+      (sendRule ns w size p .answer ≡ 0)
+      × (batchAt w p ≡ take 32 (readyOf (windowAt w p)))
+      × (length (batchAt w p) ≡ 32)
+      × (readyOf (windowAt w (sendRule ns w size p .next)) ≡ drop 32 (readyOf (windowAt w p)))
+  -- (g) Report equal to sent: joined; sent + 1: 13. A report is joined if it is not below acknowledged, and is 0 or an own entry's index.
+  pub g : (ns : List ℕ) (p : PlayerView) (w : ℕ) → Away ns p w →
+      let v : WindowView = windowAt w p in
+      (v .acked ≤ v .sent → isReport (entriesOf ns) w (v .sent) ≡ true →
+      (joinRule ns w (v .sent) p .answer ≡ 0) × (windowAt w (joinRule ns w (v .sent) p .next) ≡ joined (p .current) (v .sent) v))
+      × (joinRule ns w (v .sent + 1) p .answer ≡ 13)
   -- (h) Second 50,399 with off 50,400: stamped; 50,400: not.
-  pub h : (mayStamp posted 1 50399 ≡ true) × (mayStamp posted 1 50400 ≡ false)
+  pub h : (r : Record) (race : ℕ) → OpenUntil r race 50400 → (mayStamp r race 50399 ≡ true) × (mayStamp r race 50400 ≡ false)
+  -- and with any off second but 0
+  pub h-any : (r : Record) (race s : ℕ) → OpenUntil r race (s + 1) → (mayStamp r race s ≡ true) × (mayStamp r race (s + 1) ≡ false)
   -- (i) Header alone: no entries; no bytes: 16 at 0. The output is as it was.
   pub i : (out : List ℕ) → Reads header out (answer 0 (0 ∷ [])) out × Reads [] out (answer 16 (0 ∷ [])) out
   -- (j) POST after CLOSE: still closed, with its off second as it was, no race changed, and no second stamped.
-  pub j : ClosedAs (raceAt postedClosed 0) (raceAt postedClosedPosted 0)
-      × (raceAt postedClosedPosted 0 .off ≡ 50400)
-      × (postedClosedPosted .races ≡ postedClosed .races)
-      × ((second : ℕ) → mayStamp postedClosedPosted 1 second ≡ false)
+  pub j : (r : Record) (index set race value : ℕ) → raceAt r (race - 1) .closed ≡ true →
+      let after : Record = takeNumbers (index ∷ set ∷ 1 ∷ race ∷ value ∷ []) r .record′ in
+      ClosedAs (raceAt r (race - 1)) (raceAt after (race - 1))
+      × (after .races ≡ r .races)
+      × ((second : ℕ) → mayStamp after race second ≡ false)
 
--- Each row but (i) is computed.
 pub proved-table : ProvedTable
-unfolding mainRule joinRule sendRule operate mapWindows shape windowShape allWindows all check enqueue mainAt readyIn batchOf launched sendAt joinAt countUp numbersOf entriesOf entryAt hasWindow isFor takeAll takeEntry recordAfter racesAfter raceAfter mayStamp scan
+unfolding scan numbersOf
 proved-table = record {
   a = row-a;
-  b = refl;
-  c = refl;
-  d = refl;
-  e = refl;
-  f = (refl, refl, refl);
-  g = (refl, refl, refl);
-  h = (refl, refl);
+  b = λ i p s. mainRule-refusals [] i p ∙ simp (s, eq-eqb (p .current) 0 (omega (arith, shaped [] p s .currentIn)));
+  c = λ ns p w q.
+      let e = oneMore-window q ∙ mainAt-normal (entriesOf ns) w _ _ (oneMore-wanted q) (q .condition) (omega (arith, q .queued)) in
+      (ap (λ v. v .condition) e, ap (λ v. v .catchQueue) e, ap (λ v. v .normalQueue) e);
+  d = λ ns p w q.
+      let e =
+      oneMore-window q ∙ mainAt-room (entriesOf ns) w _ _ (oneMore-wanted q) (ap isSuspended (q .condition)) (omega (arith, q .queued)) in
+      (ap (λ v. v .condition) e ∙ q .condition, ap (λ v. v .normalQueue) e);
+  e = λ ns p w size q.
+      sendRule-refusals ns w size p ∙ simp (q .shaped, lt-ltb w _ (eightOut-within q), eightOut-here q, q .free, q .out);
+  f = λ ns p w size q. (
+    moreReady-answer q,
+    moreReady-taken q .first,
+    moreReady-length q,
+    ap readyOf (operated-at (sendRule-done ns w size p (moreReady-answer q))) ∙ launched-ready _ ∙ moreReady-taken q .rest,
+  );
+  g = λ ns p w q.
+      let v : WindowView = windowAt w p in
+      let away : isSuspended (v .condition) ≡ true = ap isSuspended (q .condition) in
+      let below : eqb (v .term .0) 4294967295 ≡ false = ne-eqb (v .term .0) 4294967295 (omega (arith, q .term)) in (
+        λ least report.
+            let e = joinRule-can ns w p (q .shaped) (q .within) (v .sent) away (q .term) least (omega arith) report in
+            (e, operated-at (joinRule-done ns w (v .sent) p e)),
+        joinRule-refusals ns w (v .sent + 1) p
+            ∙ simp (q .shaped, lt-ltb w _ (q .within), away, below, lt-ltb (v .sent) (v .sent + 1) (omega arith), or-true),
+      );
+  h = λ r race q. (openUntil-stamps q 50399, openUntil-stamps q 50400);
+  h-any = λ r race s q. (
+    openUntil-stamps q s ∙ lt-ltb s (s + 1) (omega arith),
+    openUntil-stamps q (s + 1) ∙ le-ltb (s + 1) (s + 1) (omega arith),
+  );
   i = λ out. (reads-good header out [] refl (omega arith), reads-bad [] out [] 0 refl);
-  j = (record { closed = refl; off = refl }, refl, refl, λ second. refl);
+  j = λ r index set race value closed.
+      let post : Placed = record { index = index; entry = entry4 set 1 race value } in
+      let r′ : Record = takeEntry post r .record′ in
+      let stays : ClosedAs (raceAt r (race - 1)) (raceAt r′ (race - 1)) = takeEntry-closed post r (race - 1) closed in
+      rw (takeNumbers-placed post r)
+      (stays, takeEntry-post-closed post r refl closed, λ second. mayStamp-closed r′ race second (stays .closed));
 }

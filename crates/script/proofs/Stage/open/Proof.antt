@@ -8,11 +8,16 @@ use Rattle.script.proofs.Stage.open.Tie as tie
 blank-requires : tie.Need-blank-requires
 blank-requires c κs = search needs
 
-around-requires : tie.Need-around-requires
-around-requires c κs = search needs
+new-requires : tie.Need-new-requires
+new-requires c κs = search needs
+
+new-requires-2 : tie.Need-new-requires-2
+new-requires-2 c κs = search needs
 
 returns : tie.Need-returns
-returns c = rw (c .around .ensures) (opens-over _ _ _ (c .before .before .blank .ensures) (c .before .if1 .taken))
+returns c =
+    let lines = c .before in
+    rw (lines .before .new .ensures, lines .new2 .ensures) (opens-over _ _ _ (lines .before .before .blank .ensures) (c .if1 .taken))
 
 array-share-prefix-reports : tie.Need-array-share-prefix-reports
 array-share-prefix-reports c = search needs
@@ -26,26 +31,24 @@ start-on-requires c κs = search needs
 number-requires : tie.Need-number-requires
 number-requires c κs = search needs
 
-around-requires-2 : tie.Need-around-requires-2
-around-requires-2 c κs = search needs
-
 returns-2 : tie.Need-returns-2
 returns-2 c =
-    let called = c .before .before .before in
+    let called = c .before .before in
     let below = called .before .before in
-    rw (c .around2 .ensures, c .before .number .ensures)
-    (opens-start _ _ _ (below .before .blank .ensures) _ _ (below .if1 .left) refl (called .start-on .ensures))
+    let lines = below .before in
+    rw (lines .before .new .ensures, lines .new2 .ensures, c .number .ensures)
+    (opens-start _ _ _ (lines .before .before .blank .ensures) _ _ (below .if1 .left) refl (called .start-on .ensures))
 
 pub open-spec : {M : Type 1} → statement M
 open-spec =
     tie.close
     (tie.spec
     blank-requires
-    around-requires
+    new-requires
+    new-requires-2
     returns
     array-share-prefix-reports
     slice-aggregate-start-on
     start-on-requires
     number-requires
-    around-requires-2
     returns-2)

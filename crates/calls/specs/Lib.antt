@@ -1,0 +1,13 @@
+-- Demand 3 of the calls: what a host holds, a list of calls, and what holds of every list of calls that keep their promises.
+pub mod Host
+pub mod Statement
+pub mod Shows
+pub mod Sends
+pub mod Steps
+pub mod StepsLine
+pub mod SameHosts
+pub mod Runs
+pub mod Held
+pub mod NoneCan
+pub mod Demand3Calls
+pub mod Examples

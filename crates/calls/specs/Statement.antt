@@ -1,0 +1,131 @@
+-- Demand 3 of the calls, stated. The file imports definitions alone. Document 01's words, section "Whole runs", stand beside each part.
+use Prim.Native.Nat.{ℕ, suc, _+_, _*_, _≤_, _<_}
+use mathlib.Core.Path.{_≡_}
+use mathlib.Core.List.{List, [], _∷_, map}
+use mathlib.Core.Bool.{Bool, true, false, cond, _&&_}
+use lib.ListN.{replicate, take}
+use lib.Dec.{eqb}
+use Rattle.journal.specs.Entry.{countOf, entriesOf, fiveOf}
+use Rattle.journal.specs.Own.{own}
+use Rattle.record.specs.Record.{newRecord, takeAll}
+use Rattle.rules.specs.View.{PlayerView}
+use Rattle.rules.specs.Rules.{startRule}
+use Rattle.window.specs.Promise.{numberOf}
+use Rattle.player.specs.declared.Player.{Player}
+use Rattle.player.specs.declared.Played.{Played}
+use Rattle.player.specs.View.{playerOf}
+use Rattle.player.specs.Promise.{Starts}
+use Rattle.delivery.specs.Same.{sameBool, sameList, sameWindow, sameRecord, sameAck}
+use Rattle.calls.specs.Host.{Sent, WindowEnd, Host, endAt, Call, main, catch, written, send, ack, late-ack, drop, join, start, append, Made, isDone, after, MadeAll, hostAfter, opened}
+use Rattle.calls.specs.Host as H
+
+-- ------------------------------------------------------------------------
+-- Whether two hosts look the same: the player's state, the records and the lines, and nothing else
+
+unfoldable pub sameSent : Sent → Sent → Bool
+sameSent a b = sameList eqb (a .numbers) (b .numbers) && (eqb (a .term .0) (b .term .0) && sameBool (a .ends) (b .ends))
+
+-- a window's end but for the history of what was taken
+unfoldable pub sameEnd : WindowEnd → WindowEnd → Bool
+sameEnd a b = sameRecord (a .record′) (b .record′) && (sameList sameSent (a .line) (b .line) && sameList sameAck (a .back) (b .back))
+
+-- The player's state is its view: what stands past a queue's length is no part of it.
+unfoldable pub sameHost : Host → Host → Bool
+sameHost a b =
+    let p : PlayerView = playerOf (a .player) in
+    let q : PlayerView = playerOf (b .player) in
+    eqb (p .limit) (q .limit)
+    && (eqb (p .current) (q .current)
+    && (sameList sameWindow (p .windows) (q .windows) && sameList sameEnd (a .windows) (b .windows)))
+
+-- ------------------------------------------------------------------------
+-- Counts and conditions of a list of calls
+
+-- A fault is any Drop, Join or Start that is answered 0. The count of changing calls begins anew at a fault and at an append.
+abbrev pub begins : Call → Bool
+begins (main i r) = false
+begins (catch w t i r) = false
+begins (written w t r) = false
+begins (send w lent r out) = false
+begins (H.take w t) = false
+begins (ack w r) = false
+begins (late-ack w t i r) = false
+begins (drop w r) = isDone r
+begins (join w r) = isDone r
+begins (start limit r) = isDone r
+begins (append e) = true
+
+-- The number of calls since the last fault or append that changed something: the player's state, a record or a line differs after it.
+-- n of them are counted before the list.
+unfoldable pub changes : ℕ → Host → List Call → ℕ
+changes n h [] = n
+changes n h (c ∷ cs) = changes (cond (begins c) 0 (cond (sameHost h (after c h)) n (suc n))) (after c h) cs
+
+-- A window is joined if the newest Start answered 0, or a Join answered 0 since, took its report and no Drop answered 0 followed.
+abbrev pub joinedBy : ℕ → Call → Bool → Bool
+joinedBy w (main i r) b = b
+joinedBy w (catch v t i r) b = b
+joinedBy w (written v t r) b = b
+joinedBy w (send v lent r out) b = b
+joinedBy w (H.take v t) b = b
+joinedBy w (ack v r) b = b
+joinedBy w (late-ack v t i r) b = b
+joinedBy w (drop v r) b = cond (isDone r) (cond (eqb v w) false b) b
+joinedBy w (join v r) b = cond (isDone r) (cond (eqb v w) true b) b
+joinedBy w (start limit r) b = cond (isDone r) true b
+joinedBy w (append e) b = b
+
+-- whether window w is joined after the list, where it was or was not before
+unfoldable pub joinedAfter : ℕ → Bool → List Call → Bool
+joinedAfter w b [] = b
+joinedAfter w b (c ∷ cs) = joinedAfter w (joinedBy w c b) cs
+
+-- Main, Catch, Send, Written, Take and Ack, with any arguments that the list might go on with
+abbrev pub isWork : Call → Bool
+isWork (main i r) = true
+isWork (catch w t i r) = true
+isWork (written w t r) = true
+isWork (send w lent r out) = true
+isWork (H.take w t) = true
+isWork (ack w r) = true
+isWork (late-ack w t i r) = true
+isWork (drop w r) = false
+isWork (join w r) = false
+isWork (start limit r) = false
+isWork (append e) = false
+
+-- "None can": no Main, Catch, Send, Written, Take or Ack that the list might go on with would change anything, whatever it gives that meets
+-- its promise
+abbrev pub NoneCan : Host → Type 0
+NoneCan h = (c : Call) → isWork c ≡ true → Made h c → sameHost h (after c h) ≡ true
+
+-- ------------------------------------------------------------------------
+-- The theorem
+
+-- What it has taken is the list of entries lent to its Takes that were answered 0. If these are k, the list equals the first k of its own
+-- entries, each as five numbers, and the record equals what Take makes of a new record lent those k from the journal, one after another.
+pub record Leading (ns : List ℕ) (w : ℕ) (d : WindowEnd) : Type 0 where
+  pub k : ℕ
+  pub list : d .taken ≡ map fiveOf (take k (own (entriesOf ns) w))
+  pub folded : d .record′ ≡ takeAll (take k (own (entriesOf ns) w)) newRecord
+
+-- the three results, for a host, a list of calls from there, and W windows
+pub record Delivers (count : ℕ) (h : Host) (calls : List Call) : Type 0 where
+  -- every window has taken a leading part of its own entries, once each and in order
+  pub leading : (w : ℕ) → w < count → Leading (hostAfter h calls .journal) w (endAt w (hostAfter h calls))
+  -- with all windows joined, at most L × (1 + 5 × W) calls since the last fault or append changed anything
+  pub bound : ((w : ℕ) → w < count → joinedAfter w true calls ≡ true) →
+      changes 0 h calls ≤ countOf (hostAfter h calls .journal) * (1 + 5 * count)
+  -- with all windows joined, when none can, every window has taken all of its own entries
+  pub finish : ((w : ℕ) → w < count → joinedAfter w true calls ≡ true) → NoneCan (hostAfter h calls) →
+      (w : ℕ) → w < count → endAt w (hostAfter h calls) .taken ≡ map fiveOf (own (entriesOf (hostAfter h calls .journal)) w)
+
+-- Demand 3 of the calls. The list starts from new windows, empty lines, any journal and a Start answered 0, which is handed whatever player
+-- there was before, and as each window's report a new record's last index. W, the batch limit and the journal are any that this Start
+-- takes, and the calls are any that meet their promises.
+abbrev pub Demand3Calls : Type 0
+Demand3Calls =
+    (before : Player) (ns : List ℕ) (count limit : ℕ) (r : Played) →
+    Starts before count limit (replicate count 0) r (startRule ns count limit (replicate count 0) (playerOf before)) →
+    numberOf (r .answer) ≡ 0 →
+    (calls : List Call) → MadeAll (opened (r .player) ns count) calls → Delivers count (opened (r .player) ns count) calls

@@ -1,0 +1,201 @@
+-- Each call is a step of the world that its host shows: Send, Take, Ack, Join and Start, which change the lines.
+use Prim.Native.Nat.{ℕ, _≤_, _<_}
+use mathlib.Core.Path.{_≡_, refl, sym, ap, ap₂, subst, subst₂, _∙_}
+use mathlib.Core.Logic.{⊎-elim}
+use mathlib.Core.List.{List, [], _∷_, _++_, map, map-append, map-map}
+use mathlib.Core.Bool.{Bool, true, false, cond}
+use borrow.Author.Tests.{lt-ltb, le-ltb}
+use lib.ListN.{length, length-map, List·getD-eq-default}
+use lib.Seq.{set-getD}
+use lib.Dec.{eqb}
+use Rattle.lists.specs.Cases.{eq-or-ne, le-or-lt}
+use Rattle.journal.specs.Entry.{Placed, fiveOf}
+use Rattle.record.specs.declared.Taken.{Taken}
+use Rattle.record.specs.Record.{takeNumbers}
+use Rattle.record.specs.Record as Take
+use Rattle.rules.specs.Window.{started}
+use Rattle.rules.specs.Rules.{Outcome, windowAt, ackRule, joinRule, sendRule, sendOutput, batchAt, startRule}
+use Rattle.rules.specs.Offers.{sendRule-lawful, ackRule-lawful, joinRule-lawful, startRule-done, startRule-refuses}
+use Rattle.player.specs.declared.Played.{Played}
+use Rattle.player.specs.View.{playerOf}
+use Rattle.player.specs.Promise.{Meets}
+use Rattle.delivery.specs.World.{Ack, Side, World, noSide, sideAt, numbersIn, playerIn, onLine, takeAtLine, ackAtLine, reportsIn, step}
+use Rattle.delivery.specs.World as W
+use Rattle.delivery.specs.Invariant.{Reached, lastOf}
+use Rattle.delivery.specs.Worlds.{windows-in}
+use Rattle.calls.specs.Host.{Sent, Host, newEnd, endAt, withEnd, withLines, cleared, clearedAll, putOn, send, take, ack, join, start, reportOf, MadeTake, MadeAck, Made, batchIn, batchTo, takeFront, ackFront, after}
+use Rattle.calls.specs.Shows.{sentOf, endOf, Shows, Gives, shows-count, shows-end, shows-rule, shows-meets, shows-side, shows-called, shows-changed}
+use Rattle.calls.specs.Sends.{sendOutput-onLine}
+use Rattle.calls.specs.Steps.{Follows, count-kept, answer-same}
+
+-- ------------------------------------------------------------------------
+-- Take
+
+-- what it has taken, as numbers
+taken-more : (l : List Placed) (p : Placed) (b : Bool) →
+    cond b (map fiveOf l ++ (fiveOf p ∷ [])) (map fiveOf l) ≡ map fiveOf (cond b (l ++ (p ∷ [])) l)
+taken-more l p true = sym (map-append fiveOf l (p ∷ []))
+taken-more l p false = refl
+
+-- a window's end once its front entry is taken
+takeFront-end : (p : Side) (s : W.Sent) (rest : List W.Sent) (t : Taken) →
+    Take.outcomeOf t ≡ takeNumbers (fiveOf (s .placed)) (p .record′) →
+    takeFront t (map sentOf (s ∷ rest)) (endOf p) ≡ endOf (W.takeFront s rest p)
+unfolding W.takeFront
+takeFront-end p s rest t made =
+    let back : List Ack = cond (s .ends) (p .back ++ (record { term = s .term; index = s .placed .index } ∷ [])) (p .back) in
+    ap (λ l. record { record′ = t .record; line = map sentOf rest; back = back; taken = l })
+    (taken-more (p .taken) (s .placed) (eqb (Take.numberOf (t .answer)) 0))
+    ∙ ap (λ o. record {
+      record′ = o .record′;
+      line = map sentOf rest;
+      back = back;
+      taken = map fiveOf (cond (eqb (o .number) 0) (p .taken ++ (s .placed ∷ [])) (p .taken));
+    }) made
+
+-- where there is no window, there is no side
+sideAt-none : (wd : World) (w : ℕ) → length (wd .sides) ≤ w → sideAt w wd ≡ noSide
+sideAt-none wd w h = List·getD-eq-default (wd .sides) noSide {n = w} h
+
+module _ {h : Host} {wd : World} (is : Shows h wd) where
+  -- the end that is there changes nothing
+  end-same : (w : ℕ) → Shows (withEnd w (endOf (sideAt w wd)) h) wd
+  end-same w =
+      subst (λ x. Shows x wd)
+      (sym (ap (λ ds. record { player = h .player; journal = h .journal; windows = ds }) (set-getD (h .windows) w newEnd))
+      ∙ ap (λ d. withEnd w d h) (shows-end is w))
+      is
+
+  take-line : (w : ℕ) (t : Taken) (l : List W.Sent) → MadeTake t (map sentOf l) (sideAt w wd .record′) →
+      Shows (withEnd w (takeFront t (map sentOf l) (endOf (sideAt w wd))) h) (takeAtLine w l wd .world)
+  unfolding W.takeFront
+  take-line w t [] made = end-same w
+  take-line w t (s ∷ rest) made =
+      shows-side is w _ (W.takeFront s rest (sideAt w wd)) (takeFront-end (sideAt w wd) s rest t made) refl
+
+  pub follows-take : (w : ℕ) (t : Taken) → Made h (take w t) → Follows (take w t) h wd
+  unfolding step after
+  follows-take w t made =
+      let p : Side = sideAt w wd in
+      let made′ : MadeTake t (map sentOf (p .line)) (p .record′) = subst (λ d. MadeTake t (d .line) (d .record′)) (shows-end is w) made in
+      let at : Shows (withEnd w (takeFront t (map sentOf (p .line)) (endOf p)) h) (step (W.take w) wd .world)
+      = ⊎-elim
+      (λ (n : length (wd .sides) ≤ w).
+      rw (le-ltb w (length (wd .sides)) n, sideAt-none wd w n)
+      (subst (λ p. Shows (withEnd w (endOf p) h) wd) (sideAt-none wd w n) (end-same w)))
+      (λ (n : w < length (wd .sides)). rw (lt-ltb w (length (wd .sides)) n) (take-line w t (p .line) made′))
+      (le-or-lt (length (wd .sides)) w) in
+      record {
+        shows = subst (λ d. Shows (withEnd w (takeFront t (d .line) d) h) (step (W.take w) wd .world)) (sym (shows-end is w)) at;
+        anew = refl;
+      }
+
+  -- ------------------------------------------------------------------------
+  -- Ack
+
+  ack-line : (w : ℕ) (r : Played) (b : List Ack) → MadeAck w r b h → Shows (ackFront w r b h) (ackAtLine w b wd .world)
+  ack-line w r [] made = is
+  ack-line w r (a ∷ rest) made =
+      shows-changed is w r (ackRule (numbersIn wd) w (a .term) (a .index) (playerIn wd)) (λ d. withLines (d .line) rest d)
+      (λ p. W.withLines (p .line) rest p) (shows-meets is (λ ns p. ackRule ns w (a .term) (a .index) p) made)
+      (count-kept is (ackRule-lawful (numbersIn wd) w (a .term) (a .index) (playerIn wd))) (λ z p. refl) (λ p. refl)
+
+  pub follows-ack : (w : ℕ) (r : Played) → Made h (ack w r) → Follows (ack w r) h wd
+  unfolding step after
+  follows-ack w r made =
+      let b : List Ack = sideAt w wd .back in
+      let back : endAt w h .back ≡ b = ap (λ d. d .back) (shows-end is w) in
+      let made′ : MadeAck w r b h = subst (λ b. MadeAck w r b h) back made in
+      let at : Shows (ackFront w r b h) (step (W.ack w) wd .world)
+      = ⊎-elim
+      (λ (n : length (wd .sides) ≤ w). rw (le-ltb w (length (wd .sides)) n, sideAt-none wd w n) is)
+      (λ (n : w < length (wd .sides)). rw (lt-ltb w (length (wd .sides)) n) (ack-line w r b made′))
+      (le-or-lt (length (wd .sides)) w) in
+      record { shows = subst (λ b. Shows (ackFront w r b h) (step (W.ack w) wd .world)) (sym back) at; anew = refl }
+
+  -- ------------------------------------------------------------------------
+  -- Join
+
+  pub follows-join : (w : ℕ) (r : Played) → Made h (join w r) → Follows (join w r) h wd
+  unfolding step after
+  follows-join w r made =
+      let report : ℕ = lastOf (sideAt w wd) in
+      let k = shows-meets is (λ ns p. joinRule ns w report p)
+      (subst (λ n. Meets (h .player) r (joinRule (h .journal) w n (playerOf (h .player)))) (ap reportOf (shows-end is w)) made) in
+      record {
+        shows =
+            shows-changed is w r (joinRule (numbersIn wd) w report (playerIn wd)) cleared W.cleared k
+            (count-kept is (joinRule-lawful (numbersIn wd) w report (playerIn wd))) (λ z p. refl) (λ p. refl);
+        anew = answer-same is _ k;
+      }
+
+  -- ------------------------------------------------------------------------
+  -- Send
+
+  pub follows-send : Reached wd → (w : ℕ) (lent : List ℕ) (r : Played) (out : List ℕ) → Made h (send w lent r out) →
+      Follows (send w lent r out) h wd
+  unfolding step after
+  follows-send reached w lent r out (made, wrote) =
+      let o : Outcome = sendRule (numbersIn wd) w (length lent) (playerIn wd) in
+      let k : Gives r o = shows-meets is (λ ns p. sendRule ns w (length lent) p) made in
+      let batch : List W.Sent = onLine (wd .journal) (sideAt w wd .view .term) (batchAt w (playerIn wd)) in
+      let read : o .answer ≡ 0 → batchTo w (r .player) out ≡ map sentOf batch
+      = λ z.
+      ap₂ (λ q out. batchIn (windowAt w q .sent) (windowAt w q .term) out) (k .next)
+      (wrote ∙ ap₂ (λ ns p. sendOutput ns w lent p) (is .journal) (is .player))
+      ∙ sendOutput-onLine wd reached w lent z in
+      record {
+        shows =
+            shows-changed is w r o (putOn (batchTo w (r .player) out)) (λ p. W.withLines (p .line ++ batch) (p .back) p) k
+            (count-kept is (sendRule-lawful (numbersIn wd) w (length lent) (playerIn wd)))
+            (λ z p.
+            ap (λ l. withLines l (p .back) (endOf p))
+            (ap (λ b. map sentOf (p .line) ++ b) (read z) ∙ sym (map-append sentOf (p .line) batch)))
+            (λ p. refl);
+        anew = refl;
+      }
+
+-- ------------------------------------------------------------------------
+-- Start
+
+-- every line of a world emptied
+abbrev sidesCleared : World → World
+sidesCleared wd = record { journal = wd .journal; limit = wd .limit; current = wd .current; sides = map W.cleared (wd .sides) }
+
+shows-cleared : {h : Host} {wd : World} → Shows h wd → Shows (clearedAll h) (sidesCleared wd)
+shows-cleared {h} {wd} is = record {
+  player =
+      is .player
+      ∙ ap (λ vs. record { limit = wd .limit; current = wd .current; windows = vs }) (sym (map-map (λ p. p .view) W.cleared (wd .sides)));
+  journal = is .journal;
+  windows = ap (map cleared) (is .windows) ∙ map-map cleared endOf (wd .sides) ∙ sym (map-map endOf W.cleared (wd .sides));
+}
+
+module _ {h : Host} {wd : World} (is : Shows h wd) where
+  start-count : (limit : ℕ) →
+      length (startRule (numbersIn wd) (length (wd .sides)) limit (reportsIn wd) (playerIn wd) .next .windows) ≡ length (wd .sides)
+  start-count limit =
+      let o : Outcome = startRule (numbersIn wd) (length (wd .sides)) limit (reportsIn wd) (playerIn wd) in
+      ⊎-elim
+      (λ (e : o .answer ≡ 0).
+      ap (λ q. length (q .windows)) (startRule-done (numbersIn wd) (length (wd .sides)) limit (reportsIn wd) (playerIn wd) e .next)
+      ∙ length-map (reportsIn wd) started ∙ length-map (wd .sides) lastOf)
+      (λ (n : o .answer ≡ 0 → ⊥).
+      ap (λ q. length (q .windows)) (startRule-refuses (numbersIn wd) (length (wd .sides)) limit (reportsIn wd) (playerIn wd) n)
+      ∙ windows-in wd)
+      (eq-or-ne (o .answer) 0)
+
+  pub follows-start : (limit : ℕ) (r : Played) → Made h (start limit r) → Follows (start limit r) h wd
+  unfolding step after
+  follows-start limit r made =
+      let n : ℕ = length (wd .sides) in
+      let reports : map reportOf (h .windows) ≡ reportsIn wd = ap (map reportOf) (is .windows) ∙ map-map reportOf endOf (wd .sides) in
+      let k = shows-rule is (λ ns p. startRule ns n limit (reportsIn wd) p)
+      (subst₂ (λ n rs. Gives r (startRule (h .journal) n limit rs (playerOf (h .player)))) (shows-count is) reports
+      (record { answer = made .answer; next = made .next })) in
+      record {
+        shows =
+            shows-called is r (startRule (numbersIn wd) n limit (reportsIn wd) (playerIn wd)) clearedAll sidesCleared k (start-count limit)
+            (λ z. shows-cleared);
+        anew = answer-same is _ k;
+      }
