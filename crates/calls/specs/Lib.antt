@@ -11,3 +11,4 @@ pub mod Held
 pub mod NoneCan
 pub mod Demand3Calls
 pub mod Examples
+pub mod Promises
