@@ -10,5 +10,3 @@ pub mod Runs
 pub mod Held
 pub mod NoneCan
 pub mod Demand3Calls
-pub mod Examples
-pub mod Promises

@@ -15,6 +15,7 @@ use Rattle.rules.specs.View.{PlayerView}
 use Rattle.rules.specs.Rules.{Outcome, mainRule, catchRule, writtenRule, ackRule, sendRule, sendOutput}
 use Rattle.rules.specs.Offers.{mainRule-refuses, mainRule-count, catchRule-lawful, writtenRule-lawful, ackRule-lawful, sendRule-lawful}
 use Rattle.player.specs.View.{playerOf}
+use Rattle.player.specs.declared.Played.{Played}
 use Rattle.player.specs.Promise.{Meets}
 use Rattle.delivery.specs.World.{Ack, World, sideAt, numbersIn, playerIn, Step, launch, step}
 use Rattle.delivery.specs.World as W
@@ -70,44 +71,50 @@ module _ {h : Host} {wd : World} (is : Shows h wd) (r : Reached wd) (none : None
   unfolding step
   none-main i =
       let o : Outcome = mainRule (numbersIn wd) i (playerIn wd) in
-      either o (W.main i) (λ z. quiet (main (record { 0 = i }) (playedFor (h .player) o)) refl (given (λ ns p. mainRule ns i p) (mainRule-count (numbersIn wd) i (playerIn wd)) z))
+      either o (W.main i)
+      (λ z. quiet (main (record { 0 = i }) (playedFor (h .player) o)) refl
+      (given (λ ns p. mainRule ns i p) (mainRule-count (numbersIn wd) i (playerIn wd)) z))
       (λ n. withPlayer-same wd (o .next) (mainRule-refuses (numbersIn wd) i (playerIn wd) n))
 
   none-catch : (w : ℕ) (t : Term) (i : ℕ) → sameWorld wd (step (W.catch w t i) wd .world) ≡ true
   unfolding step
   none-catch w t i =
       let o : Outcome = catchRule (numbersIn wd) w t i (playerIn wd) in
-      either o (W.catch w t i) (λ z. quiet (catch w t (record { 0 = i }) (playedFor (h .player) o)) refl (given (λ ns p. catchRule ns w t i p) (lawful-count (catchRule-lawful (numbersIn wd) w t i (playerIn wd))) z))
-      (λ n. withPlayer-same wd (o .next) (catchRule-lawful (numbersIn wd) w t i (playerIn wd) .refuses n))
+      let law = catchRule-lawful (numbersIn wd) w t i (playerIn wd) in
+      either o (W.catch w t i)
+      (λ z. quiet (catch w t (record { 0 = i }) (playedFor (h .player) o)) refl (given (λ ns p. catchRule ns w t i p) (lawful-count law) z))
+      (λ n. withPlayer-same wd (o .next) (law .refuses n))
 
   none-written : (w : ℕ) (t : Term) → sameWorld wd (step (W.written w t) wd .world) ≡ true
   unfolding step
   none-written w t =
       let o : Outcome = writtenRule (numbersIn wd) w t (playerIn wd) in
-      either o (W.written w t) (λ z. quiet (written w t (playedFor (h .player) o)) refl (given (λ ns p. writtenRule ns w t p) (lawful-count (writtenRule-lawful (numbersIn wd) w t (playerIn wd))) z))
-      (λ n. withPlayer-same wd (o .next) (writtenRule-lawful (numbersIn wd) w t (playerIn wd) .refuses n))
+      let law = writtenRule-lawful (numbersIn wd) w t (playerIn wd) in
+      either o (W.written w t)
+      (λ z. quiet (written w t (playedFor (h .player) o)) refl (given (λ ns p. writtenRule ns w t p) (lawful-count law) z))
+      (λ n. withPlayer-same wd (o .next) (law .refuses n))
 
   none-send : (w : ℕ) (lent : List ℕ) → sameWorld wd (step (W.send w lent) wd .world) ≡ true
   unfolding step
   none-send w lent =
       let o : Outcome = sendRule (numbersIn wd) w (length lent) (playerIn wd) in
+      let law = sendRule-lawful (numbersIn wd) w (length lent) (playerIn wd) in
       either o (W.send w lent)
       (λ z. quiet (send w lent (playedFor (h .player) o) (sendOutput (h .journal) w lent (playerOf (h .player)))) refl
-      (given (λ ns p. sendRule ns w (length lent) p) (lawful-count (sendRule-lawful (numbersIn wd) w (length lent) (playerIn wd))) z, refl))
-      (λ n. calledThen-refused o (launch w wd) wd n
-      ∙ withPlayer-same wd (o .next) (sendRule-lawful (numbersIn wd) w (length lent) (playerIn wd) .refuses n))
+      (given (λ ns p. sendRule ns w (length lent) p) (lawful-count law) z, refl))
+      (λ n. calledThen-refused o (launch w wd) wd n ∙ withPlayer-same wd (o .next) (law .refuses n))
 
   none-late : (w : ℕ) (t : Term) (i : ℕ) → sameWorld wd (step (W.late-ack w t i) wd .world) ≡ true
   unfolding step
   none-late w t i =
       let o : Outcome = ackRule (numbersIn wd) w t i (playerIn wd) in
+      let law = ackRule-lawful (numbersIn wd) w t i (playerIn wd) in
       ⊎-elim
       (λ (late : isLate w t h ≡ true).
       either o (W.late-ack w t i)
-      (λ z. quiet (late-ack w t (record { 0 = i }) (playedFor (h .player) o)) refl (late, given (λ ns p. ackRule ns w t i p) (lawful-count (ackRule-lawful (numbersIn wd) w t i (playerIn wd))) z))
-      (λ n.
-      rw (sym (shows-late is w t) ∙ late)
-      (withPlayer-same wd (o .next) (ackRule-lawful (numbersIn wd) w t i (playerIn wd) .refuses n))))
+      (λ z. quiet (late-ack w t (record { 0 = i }) (playedFor (h .player) o)) refl
+      (late, given (λ ns p. ackRule ns w t i p) (lawful-count law) z))
+      (λ n. rw (sym (shows-late is w t) ∙ late) (withPlayer-same wd (o .next) (law .refuses n))))
       (λ (soon : isLate w t h ≡ false). still (rw (sym (shows-late is w t) ∙ soon)))
       (true-or-false (isLate w t h))
 
@@ -120,8 +127,8 @@ module _ {h : Host} {wd : World} (is : Shows h wd) (r : Reached wd) (none : None
       quiet (take w t) refl
       (subst (λ d. MadeTake t (d .line) (d .record′)) (sym (shows-end is w)) (takenAt-made (sideAt w wd .line) (sideAt w wd .record′)))
 
-  ack-made : (w : ℕ) (o : Outcome) (b : List Ack) → sideAt w wd .back ≡ b → MadeAck w (playedFor (h .player) o) b h → Made h (ack w (playedFor (h .player) o))
-  ack-made w o b e made = subst (λ b. MadeAck w (playedFor (h .player) o) b h) (sym (ap (λ d. d .back) (shows-end is w) ∙ e)) made
+  ack-made : (w : ℕ) (g : Played) (b : List Ack) → sideAt w wd .back ≡ b → MadeAck w g b h → Made h (ack w g)
+  ack-made w g b e made = subst (λ b. MadeAck w g b h) (sym (ap (λ d. d .back) (shows-end is w) ∙ e)) made
 
   -- an Ack that is refused changes nothing
   ack-still : (w : ℕ) (a : Ack) (rest : List Ack) → sideAt w wd .back ≡ a ∷ rest →
@@ -140,12 +147,13 @@ module _ {h : Host} {wd : World} (is : Shows h wd) (r : Reached wd) (none : None
   none-ack : (w : ℕ) (b : List Ack) → sideAt w wd .back ≡ b → sameWorld wd (step (W.ack w) wd .world) ≡ true
   none-ack w [] e =
       let o : Outcome = ackRule (numbersIn wd) w (record { 0 = 0 }) 0 (playerIn wd) in
-      quiet (ack w (playedFor (h .player) o)) refl (ack-made w o [] e tt)
+      quiet (ack w (playedFor (h .player) o)) refl (ack-made w _ [] e tt)
   none-ack w (a ∷ rest) e =
       let o : Outcome = ackRule (numbersIn wd) w (a .term) (a .index) (playerIn wd) in
+      let law = ackRule-lawful (numbersIn wd) w (a .term) (a .index) (playerIn wd) in
       either o (W.ack w)
-      (λ z. quiet (ack w (playedFor (h .player) o)) refl (ack-made w o (a ∷ rest) e
-      (given (λ ns p. ackRule ns w (a .term) (a .index) p) (lawful-count (ackRule-lawful (numbersIn wd) w (a .term) (a .index) (playerIn wd))) z)))
+      (λ z. quiet (ack w (playedFor (h .player) o)) refl
+      (ack-made w _ (a ∷ rest) e (given (λ ns p. ackRule ns w (a .term) (a .index) p) (lawful-count law) z)))
       (ack-still w a rest e)
 
   -- ------------------------------------------------------------------------

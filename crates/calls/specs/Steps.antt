@@ -18,6 +18,7 @@ use Rattle.player.specs.declared.Played.{Played}
 use Rattle.delivery.specs.World.{World, numbersIn, playerIn, Step, step}
 use Rattle.delivery.specs.World as W
 use Rattle.delivery.specs.Statement as Delivery
+use Rattle.delivery.specs.Reach.{numbersOf-append}
 use Rattle.delivery.specs.Worlds.{count-in, windows-in}
 use Rattle.calls.specs.Host.{Host, withPlayer, Call, main, catch, written, send, take, ack, late-ack, drop, join, start, append, Made, isDone, after}
 use Rattle.calls.specs.Statement.{begins}
@@ -53,14 +54,6 @@ lawful-count {w = w} {p = p} {o = o} law =
     (λ (e : o .answer ≡ 0). ap (λ q. length (q .windows)) (law .does e .next) ∙ length-set (p .windows) w _)
     (λ (n : o .answer ≡ 0 → ⊥). ap (λ q. length (q .windows)) (law .refuses n))
     (eq-or-ne (o .answer) 0)
-
--- ------------------------------------------------------------------------
--- numbersOf
-
-numbersOf-append : (j : List Entry) (e : Entry) → numbersOf (j ++ (e ∷ [])) ≡ numbersOf j ++ numbersOf (e ∷ [])
-unfolding numbersOf
-numbersOf-append [] e = refl
-numbersOf-append (x ∷ j) e = ap (λ l. x .set ∷ x .kind ∷ x .race ∷ x .value ∷ l) (numbersOf-append j e)
 
 -- ------------------------------------------------------------------------
 -- Main, Catch, Written, a late Ack, Drop

@@ -83,7 +83,7 @@ reached-restart wd wd′ r m = record {
       rw (m .journal, m .each w h′) (keep-start (r .each w h′) (m .least w h′));
 }
 
-numbersOf-append : (j : List Entry) (e : Entry) → numbersOf (j ++ (e ∷ [])) ≡ numbersOf j ++ numbersOf (e ∷ [])
+pub numbersOf-append : (j : List Entry) (e : Entry) → numbersOf (j ++ (e ∷ [])) ≡ numbersOf j ++ numbersOf (e ∷ [])
 unfolding numbersOf
 numbersOf-append [] e = refl
 numbersOf-append (x ∷ j) e = ap (λ l. x .set ∷ x .kind ∷ x .race ∷ x .value ∷ l) (numbersOf-append j e)

@@ -9,15 +9,12 @@ use Rattle.script_line.specs.declared.Step.{Step}
 use Rattle.script_line.specs.declared.Step.the-variants.{Main, At}
 use Rattle.script_line.specs.declared.Verb.the-variants.{Catch, Send, Drop, Join, Take}
 use Rattle.script.specs.Stage.{stepIn}
+use Rattle.script.specs.Room.{played}
 
--- the replies of a script's steps, one after another, and the world after them
+-- the replies of a script's steps, one after another
 unfoldable pub scriptReplies : World → List Step → List Reply
 scriptReplies wd [] = []
 scriptReplies wd (s ∷ ss) = step (stepIn wd s) wd .reply ∷ scriptReplies (step (stepIn wd s) wd .world) ss
-
-unfoldable pub scriptWorld : World → List Step → World
-scriptWorld wd [] = wd
-scriptWorld wd (s ∷ ss) = scriptWorld (step (stepIn wd s) wd .world) ss
 
 -- `windows 2` and the journal: the world that the stage is opened on, whatever a player held before
 abbrev pub afternoonWorld : PlayerView → World
@@ -32,9 +29,9 @@ afternoonSteps =
 pub record RunA (before : PlayerView) : Type 0 where
   pub answers : scriptReplies (afternoonWorld before) afternoonSteps ≡
       done ∷ done ∷ done ∷ done ∷ done ∷ done ∷ answered 7 ∷ done ∷ done ∷ done ∷ []
-  pub window0 : shownAt 0 (scriptWorld (afternoonWorld before) afternoonSteps) ≡ record { last = 2; count = 2 }
-  pub window1 : shownAt 1 (scriptWorld (afternoonWorld before) afternoonSteps) ≡ record { last = 0; count = 0 }
+  pub window0 : shownAt 0 (played (afternoonWorld before) afternoonSteps) ≡ record { last = 2; count = 2 }
+  pub window1 : shownAt 1 (played (afternoonWorld before) afternoonSteps) ≡ record { last = 0; count = 0 }
 
 pub row-a : (before : PlayerView) → RunA before
-unfolding computed scriptReplies scriptWorld
+unfolding computed scriptReplies played
 row-a before = record { answers = refl; window0 = refl; window1 = refl }

@@ -1,5 +1,5 @@
--- What `Made` asks of a call is what its contract in `src/` promises. Each law goes from the contract, as the toolchain reads it of the
--- arguments, the result and what is left behind a `&mut`, to the text that `Made` has.
+-- What `Made` of `calls` asks of a call is what the call's contract in `src/` promises. Each law is a result to be read: it goes from the
+-- contract, as the toolchain reads it of the arguments, the result and what is left behind a `&mut`, to the text that `Made` has.
 use mathlib.Core.Path.{_≡_}
 use lib.ListN.{length}
 use contract.Lifetimes.{Lfts}
