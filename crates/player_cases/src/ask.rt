@@ -74,10 +74,9 @@ fn numbers(b: u32, c: u32, d: u32) -> Line {
     }
 }
 
-// Whether the player is in shape, and what each operation answers: Main with the next index, the others at a window that no player has,
-// with a term and an index that are nobody's.
+// What each operation answers, 1 where the player is out of shape: Main with the next index, the others at a window that no player has, with
+// a term and an index that are nobody's.
 fn shape(p: Player, journal: &[u32]) {
-    show::in_shape(p.in_shape(journal));
     let next = std::num::wrapping_add_u32(p.current.0, 1);
     operation(p, journal, numbers(0, 0, next), b'M');
     operation(p, journal, numbers(16, 9, 9), b'C');

@@ -13,7 +13,7 @@
 // | `i` | every window as this one is | `J` | Join: window, report |
 // | `h` | idle | `P` | Start: W, batch limit |
 // | `l` | term, acknowledged, sent, and 1 for busy | `O` | Send at the window on its own, lent five numbers |
-// | `f` | Fetching: next, end | `I` | the shape, and each operation at a window that no player has |
+// | `f` | Fetching: next, end | `I` | each operation at a window that no player has |
 // | `e` | Completed: end | `Z` | the same over a journal of so many zeros |
 // | `s` | Suspended | | what it shows |
 // | `b` | batches: an index in every cell, how many | `K` | `current` |

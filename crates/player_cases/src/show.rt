@@ -30,14 +30,6 @@ pub(crate) fn answer(given: Answer) {
     value(given.number());
 }
 
-pub(crate) fn in_shape(yes: bool) {
-    if yes {
-        io::write_all(1, b" in shape,");
-    } else {
-        io::write_all(1, b" out of shape,");
-    }
-}
-
 fn least(m: usize, n: usize) -> usize {
     if m < n { m } else { n }
 }
