@@ -27,8 +27,8 @@ use Rattle.delivery.specs.Worlds.{withPlayer-same}
 use Rattle.delivery.specs.Stepped.{calledThen-refused}
 use Rattle.calls.specs.Host.{Host, Call, main, catch, written, send, take, ack, late-ack, isLate, MadeTake, MadeAck, Made}
 use Rattle.calls.specs.Statement.{isWork, NoneCan}
-use Rattle.calls.specs.Shows.{sentOf, Shows, shows-held-count, shows-end, shows-late}
-use Rattle.calls.specs.Steps.{stepOf, lawful-count}
+use Rattle.calls.specs.Shows.{inNumbers, Shows, shows-held-count, shows-end, shows-late}
+use Rattle.calls.specs.Steps.{callStep, lawful-count}
 use Rattle.calls.specs.SameHosts.{sameHost-world}
 use Rattle.calls.specs.Runs.{follows}
 use Rattle.calls.specs.Held.{playedFor, playedFor-meets, takenFor, takenFor-meets}
@@ -38,14 +38,14 @@ takenAt : List W.Sent → Record → Taken
 takenAt [] own = takenFor (placedAt [] 0) own
 takenAt (s ∷ rest) own = takenFor (s .placed) own
 
-takenAt-made : (l : List W.Sent) (own : Record) → MadeTake (takenAt l own) (map sentOf l) own
+takenAt-made : (l : List W.Sent) (own : Record) → MadeTake (takenAt l own) (map inNumbers l) own
 unfolding takenAt
 takenAt-made [] own = tt
 takenAt-made (s ∷ rest) own = takenFor-meets (s .placed) own
 
 module _ {h : Host} {wd : World} (is : Shows h wd) (r : Reached wd) (none : NoneCan h) where
   -- a call that can be made changes nothing, and so its step
-  quiet : (c : Call) → isWork c ≡ true → Made h c → sameWorld wd (step (stepOf c) wd .world) ≡ true
+  quiet : (c : Call) → isWork c ≡ true → Made h c → sameWorld wd (step (callStep c) wd .world) ≡ true
   quiet c work made = sym (sameHost-world is (follows is r c made .shows)) ∙ none c work made
 
   -- the world that is there
