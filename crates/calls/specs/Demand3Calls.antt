@@ -104,7 +104,7 @@ module _ (before : Player) (ns : List ℕ) (count limit : ℕ) (r : Played)
   windows-count =
       ap (λ q. length (q .windows)) (started-done .next) ∙ length-map (replicate count 0) started ∙ length-replicate count 0
 
-  opened-shows : Shows (opened (r .player) ns count) (W.opened (entriesOf ns) firstIn)
+  pub opened-shows : Shows (opened (r .player) ns count) (W.opened (entriesOf ns) firstIn)
   unfolding W.opened
   opened-shows = record {
     player =
