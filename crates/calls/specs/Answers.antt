@@ -58,7 +58,8 @@ cond-same false x = refl
 -- ------------------------------------------------------------------------
 -- The rules
 
-pub start-numbered : (ns : List ℕ) (count limit : ℕ) (reports : List ℕ) (p : PlayerView) → Numbered (startRule ns count limit reports p .answer)
+pub start-numbered : (ns : List ℕ) (count limit : ℕ) (reports : List ℕ) (p : PlayerView) →
+    Numbered (startRule ns count limit reports p .answer)
 start-numbered ns count limit reports p =
     numbered answers _ (simp (startRule-refusals ns count limit reports p, cond-in, done-in, cond-same))
 

@@ -73,8 +73,7 @@ module _ (h : Host) where
   ack-given w t i = lawful-given (ackRule-lawful (h .journal) w t i held) (ack-numbered (h .journal) w t i held)
 
   ack-front : (w : ℕ) (b : List Ack) → endAt w h .back ≡ b → CallFor h (W.ack w)
-  ack-front w [] e =
-      record { call = ack w (record { player = h .player; answer = ack-given w (record { 0 = 0 }) 0 .gave .answer }); same = refl; made = rw e tt }
+  ack-front w [] e = record { call = ack w (ack-given w (record { 0 = 0 }) 0 .gave); same = refl; made = rw e tt }
   ack-front w (a ∷ rest) e =
       let g = ack-given w (a .term) (a .index) in
       record { call = ack w (g .gave); same = refl; made = rw e (g .meets) }

@@ -77,7 +77,8 @@ module _ {h : Host} {wd : World} (is : Shows h wd) where
   unfolding step after
   follows-take w t made =
       let p : Side = sideAt w wd in
-      let made′ : MadeTake t (map inNumbers (p .line)) (p .record′) = subst (λ d. MadeTake t (d .line) (d .record′)) (shows-end is w) made in
+      let made′ : MadeTake t (map inNumbers (p .line)) (p .record′) =
+      subst (λ d. MadeTake t (d .line) (d .record′)) (shows-end is w) made in
       let at : Shows (withEnd w (takeFront t (map inNumbers (p .line)) (endOf p)) h) (step (W.take w) wd .world)
       = ⊎-elim
       (λ (n : length (wd .sides) ≤ w).
