@@ -30,7 +30,7 @@ use Rattle.delivery.specs.Demand3.{opened-reached, demand-3}
 use Rattle.calls.specs.Host.{Host, newEnd, endAt, Call, MadeAll, hostAfter, opened}
 use Rattle.calls.specs.Statement.{joinedAfter, Leading, Delivers, Demand3Calls}
 use Rattle.calls.specs.Shows.{endOf, Shows, shows-end}
-use Rattle.calls.specs.Steps.{stepOf}
+use Rattle.calls.specs.Steps.{callStep}
 use Rattle.calls.specs.Runs.{hostAfter-shows, changes-steps, joinedAfter-steps}
 use Rattle.calls.specs.NoneCan.{none-steps}
 
@@ -52,7 +52,7 @@ module _ {h : Host} {wd : World} (is : Shows h wd) where
 
 module _ (count : ℕ) {h : Host} {wd : World} (is : Shows h wd) (reached : Reached wd) (calls : List Call) (made : MadeAll h calls) where
   abbrev steps : List Step
-  steps = map stepOf calls
+  steps = map callStep calls
 
   shown : Shows (hostAfter h calls) (run wd steps)
   shown = hostAfter-shows is reached calls made
@@ -104,7 +104,7 @@ module _ (before : Player) (ns : List ℕ) (count limit : ℕ) (r : Played)
   windows-count =
       ap (λ q. length (q .windows)) (started-done .next) ∙ length-map (replicate count 0) started ∙ length-replicate count 0
 
-  opened-shows : Shows (opened (r .player) ns count) (W.opened (entriesOf ns) firstIn)
+  pub opened-shows : Shows (opened (r .player) ns count) (W.opened (entriesOf ns) firstIn)
   unfolding W.opened
   opened-shows = record {
     player =
@@ -125,7 +125,7 @@ module _ (before : Player) (ns : List ℕ) (count limit : ℕ) (r : Played)
   delivers : (calls : List Call) → MadeAll (opened (r .player) ns count) calls → Delivers count (opened (r .player) ns count) calls
   delivers calls all =
       delivers-shown count opened-shows (opened-reached (playerOf before) (entriesOf ns) count limit first-done) calls all
-      (demand-3 (playerOf before) (entriesOf ns) count limit (map stepOf calls) first-done)
+      (demand-3 (playerOf before) (entriesOf ns) count limit (map callStep calls) first-done)
 
 -- Demand 3 of the calls, for every W, batch limit, journal and list of calls
 pub demand-3-calls : Demand3Calls

@@ -1,47 +1,45 @@
--- A player for each view, and what Take gives for each entry: so what a promise asks of an answer 0 can be given.
+-- A player for each view, and what Take gives for all numbers: so what a promise asks of a call can be given.
 use Prim.Native.Nat.{ℕ, _-_}
 use mathlib.Core.Path.{_≡_, refl, sym, ap, ap₂, _∙_}
+use mathlib.Core.Logic.{⊎-elim}
 use mathlib.Core.List.{List, [], _∷_, _++_, map}
-use mathlib.Core.Bool.{Bool, true, false, cond}
+use mathlib.Core.Bool.{true, false}
 use lib.ListN.{length, drop, replicate, length-map}
 use lib.Seq.{drop-at}
 use lib.Dec.{eqb}
+use Rattle.lists.specs.Cases.{eq-or-ne, true-or-false}
 use Rattle.lists.specs.Cells.{front}
-use Rattle.journal.specs.Entry.{Placed, fiveOf}
 use Rattle.queue.specs.declared.Queue.{Queue}
 use Rattle.queue.specs.declared.Batches.{Batches}
 use Rattle.queue.specs.Items.{itemsOf, batchesOf}
 use Rattle.record.specs.declared.Record.{Record}
 use Rattle.record.specs.declared.Taken.{Taken}
-use Rattle.record.specs.declared.Answer.the-variants.{Full}
-use Rattle.record.specs.declared.Answer.the-variants as TakeAnswer
-use Rattle.record.specs.Record.{outcomeOf, recordAfter, takeEntry, takeNumbers}
-use Rattle.record.specs.Laws.{takeNumbers-placed}
+use Rattle.record.specs.declared.Answer.the-variants.{Done, OutOfShape, Full}
+use Rattle.record.specs.Record.{outcomeOf, takeEntry, takeNumbers}
 use Rattle.rules.specs.View.{Condition, normal, fetching, completed, suspended, WindowView, noWindow, PlayerView}
 use Rattle.rules.specs.Rules.{Outcome}
 use Rattle.window.specs.declared.Condition.{Condition as HeldCondition}
 use Rattle.window.specs.declared.Condition.the-variants.{Normal, Fetching, Completed, Suspended}
-use Rattle.window.specs.declared.Answer.the-variants.{Done}
 use Rattle.window.specs.declared.Window.{Window}
 use Rattle.window.specs.View.{conditionOf, viewOf}
 use Rattle.player.specs.declared.Player.{Player}
 use Rattle.player.specs.declared.Played.{Played}
 use Rattle.player.specs.View.{firstWindows, playerOf}
 use Rattle.player.specs.Promise.{Meets}
+use Rattle.player.specs.FirstWindows.{firstWindows-length}
+use Rattle.calls.specs.Answers.{Numbered}
 
 -- ------------------------------------------------------------------------
 -- Queues: a list and zeros after it
 
 -- so many cells that begin with a list; a list of more has no cell after it
-unfoldable pub filled : ℕ → List ℕ → List ℕ
+filled : ℕ → List ℕ → List ℕ
 filled size l = l ++ replicate (size - length l) 0
 
-unfoldable pub queueFrom : List ℕ → Queue
-unfolding filled
+queueFrom : List ℕ → Queue
 queueFrom l = record { cells = filled 128 l; len = length l }
 
-unfoldable pub batchesFrom : List ℕ → Batches
-unfolding filled
+batchesFrom : List ℕ → Batches
 batchesFrom l = record { cells = filled 8 l; len = length l }
 
 front-of : (l more : List ℕ) → front 0 (length l) (l ++ more) ≡ l
@@ -50,17 +48,17 @@ front-of [] more = refl
 front-of (x ∷ l) more = ap (λ t. x ∷ t) (front-of l more)
 
 itemsOf-from : (l : List ℕ) → itemsOf (queueFrom l) ≡ l
-unfolding itemsOf queueFrom
+unfolding itemsOf queueFrom filled
 itemsOf-from l = front-of l _
 
 batchesOf-from : (l : List ℕ) → batchesOf (batchesFrom l) ≡ l
-unfolding batchesOf batchesFrom
+unfolding batchesOf batchesFrom filled
 batchesOf-from l = front-of l _
 
 -- ------------------------------------------------------------------------
 -- A window
 
-unfoldable pub conditionFrom : Condition → HeldCondition
+conditionFrom : Condition → HeldCondition
 conditionFrom normal = Normal
 conditionFrom (fetching n e) = Fetching (record { 0 = n }) (record { 0 = e })
 conditionFrom (completed e) = Completed (record { 0 = e })
@@ -73,8 +71,7 @@ conditionOf-from (fetching n e) = refl
 conditionOf-from (completed e) = refl
 conditionOf-from suspended = refl
 
-unfoldable pub windowFrom : WindowView → Window
-unfolding queueFrom batchesFrom conditionFrom
+windowFrom : WindowView → Window
 windowFrom v = record {
   head = record {
     term = v .term;
@@ -115,8 +112,7 @@ viewOf-from v =
 -- ------------------------------------------------------------------------
 -- A player, with the windows from W up of another
 
-unfoldable pub playerFrom : Player → PlayerView → Player
-unfolding windowFrom
+playerFrom : Player → PlayerView → Player
 playerFrom before q = record {
   count = length (q .windows);
   limit = q .limit;
@@ -133,38 +129,57 @@ playerOf-from : (before : Player) (q : PlayerView) → playerOf (playerFrom befo
 unfolding playerOf playerFrom
 playerOf-from before q = ap (λ vs. record { limit = q .limit; current = q .current; windows = vs }) (firstWindows-from (q .windows) _)
 
--- what a call of the player gives that is answered 0
-unfoldable pub playedFor : Player → Outcome → Played
-unfolding playerFrom
-playedFor before o = record { player = playerFrom before (o .next); answer = Done }
+-- what a call of the player gives
+pub record Given (before : Player) (o : Outcome) : Type 0 where
+  pub gave : Played
+  pub meets : Meets before gave o
 
-pub playedFor-meets : (before : Player) (o : Outcome) → length (o .next .windows) ≡ before .count → o .answer ≡ 0 →
-    Meets before (playedFor before o) o
-unfolding playedFor playerFrom
-playedFor-meets before o n z = record {
-  answer = sym z;
-  next = playerOf-from before (o .next);
-  unchanged = λ r. absurd (r z);
-  above = drop-at (map windowFrom (o .next .windows)) _ (before .count) (length-map (o .next .windows) windowFrom ∙ n);
-}
+-- answered 0, a player for the rule's next view; refused, the player handed in
+pub given : (before : Player) (o : Outcome) → length (o .next .windows) ≡ length (playerOf before .windows) →
+    ((o .answer ≡ 0 → ⊥) → o .next ≡ playerOf before) → Numbered (o .answer) → Given before o
+unfolding playerOf playerFrom
+given before o n same a =
+    let count : length (map windowFrom (o .next .windows)) ≡ before .count =
+    length-map (o .next .windows) windowFrom ∙ n ∙ firstWindows-length (before .count) (before .windows) in
+    ⊎-elim
+    (λ (z : o .answer ≡ 0). record {
+      gave = record { player = playerFrom before (o .next); answer = a .answer };
+      meets = record {
+        answer = a .number;
+        next = playerOf-from before (o .next);
+        unchanged = λ r. absurd (r z);
+        above = drop-at (map windowFrom (o .next .windows)) _ (before .count) count;
+      };
+    })
+    (λ (r : o .answer ≡ 0 → ⊥). record {
+      gave = record { player = before; answer = a .answer };
+      meets = record { answer = a .number; next = sym (same r); unchanged = λ x. refl; above = refl };
+    })
+    (eq-or-ne (o .answer) 0)
 
 -- ------------------------------------------------------------------------
 -- Take
 
--- what Take gives where the count is at its end, and where it is not
-unfoldable pub takenBy : Bool → Placed → Record → Taken
-takenBy true p r = record { answer = Full; «record» = r }
-takenBy false p r = record { answer = TakeAnswer.Done; «record» = recordAfter p r }
+-- what Take gives
+pub record TakeGiven (numbers : List ℕ) (own : Record) : Type 0 where
+  pub gave : Taken
+  pub meets : outcomeOf gave ≡ takeNumbers numbers own
 
-unfoldable pub takenFor : Placed → Record → Taken
-unfolding takenBy
-takenFor p r = takenBy (eqb (r .count) 4294967295) p r
+-- where there are not five numbers
+shapeless : {numbers : List ℕ} (own : Record) → takeNumbers numbers own ≡ record { number = 1; record′ = own } → TakeGiven numbers own
+shapeless own e = record { gave = record { answer = OutOfShape; «record» = own }; meets = sym e }
 
-pub takenFor-meets : (p : Placed) (r : Record) → outcomeOf (takenFor p r) ≡ takeNumbers (fiveOf p) r
-unfolding takenFor takeEntry
-takenFor-meets p r = by (eqb (r .count) 4294967295) ∙ sym (takeNumbers-placed p r)
-  where
-    by : (b : Bool) →
-        outcomeOf (takenBy b p r) ≡ cond b (record { number = 15; record′ = r }) (record { number = 0; record′ = recordAfter p r })
-    by true = refl
-    by false = refl
+pub takeGiven : (numbers : List ℕ) (own : Record) → TakeGiven numbers own
+unfolding takeNumbers takeEntry
+takeGiven [] own = shapeless own refl
+takeGiven (i ∷ []) own = shapeless own refl
+takeGiven (i ∷ s ∷ []) own = shapeless own refl
+takeGiven (i ∷ s ∷ k ∷ []) own = shapeless own refl
+takeGiven (i ∷ s ∷ k ∷ c ∷ []) own = shapeless own refl
+takeGiven (i ∷ s ∷ k ∷ c ∷ v ∷ []) own =
+    let next : Record = takeNumbers (i ∷ s ∷ k ∷ c ∷ v ∷ []) own .record′ in
+    ⊎-elim
+    (λ (full : eqb (own .count) 4294967295 ≡ true). record { gave = record { answer = Full; «record» = next }; meets = rw full })
+    (λ (room : eqb (own .count) 4294967295 ≡ false). record { gave = record { answer = Done; «record» = next }; meets = rw room })
+    (true-or-false (eqb (own .count) 4294967295))
+takeGiven (i ∷ s ∷ k ∷ c ∷ v ∷ x ∷ xs) own = shapeless own refl

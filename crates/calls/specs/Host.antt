@@ -134,7 +134,8 @@ Made h (drop w r) = Meets (h .player) r (dropRule (h .journal) w (playerOf (h .p
 Made h (join w r) = Meets (h .player) r (joinRule (h .journal) w (reportOf (endAt w h)) (playerOf (h .player)))
 Made h (start limit r) =
     let reports : List ℕ = map reportOf (h .windows) in
-    Starts (h .player) (length (h .windows)) limit reports r (startRule (h .journal) (length (h .windows)) limit reports (playerOf (h .player)))
+    Starts (h .player) (length (h .windows)) limit reports r
+    (startRule (h .journal) (length (h .windows)) limit reports (playerOf (h .player)))
 Made h (append e) = countOf (h .journal) < 65535
 
 -- ------------------------------------------------------------------------

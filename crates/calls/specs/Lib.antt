@@ -7,6 +7,8 @@ pub mod Steps
 pub mod StepsLine
 pub mod SameHosts
 pub mod Runs
+pub mod Answers
 pub mod Held
+pub mod CallFor
 pub mod NoneCan
 pub mod Demand3Calls

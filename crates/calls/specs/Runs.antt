@@ -13,7 +13,7 @@ use Rattle.delivery.specs.Reach.{reached-step}
 use Rattle.calls.specs.Host.{Host, Call, main, catch, written, send, take, ack, late-ack, drop, join, start, append, Made, after, MadeAll, hostAfter}
 use Rattle.calls.specs.Statement.{sameHost, begins, changes, joinedBy, joinedAfter}
 use Rattle.calls.specs.Shows.{Shows}
-use Rattle.calls.specs.Steps.{stepOf, Follows, follows-main, follows-catch, follows-written, follows-late, follows-drop, follows-append}
+use Rattle.calls.specs.Steps.{callStep, Follows, follows-main, follows-catch, follows-written, follows-late, follows-drop, follows-append}
 use Rattle.calls.specs.StepsLine.{follows-send, follows-take, follows-ack, follows-join, follows-start}
 use Rattle.calls.specs.SameHosts.{sameHost-world}
 
@@ -34,7 +34,7 @@ follows is r (start limit g) made = follows-start is limit g made
 follows is r (append e) made = follows-append is e made
 
 -- A result to be read: whether a call changes anything does not depend on which of the results that meet its promise it gives.
-pub results-alike : {h : Host} {wd : World} → Shows h wd → Reached wd → (c c′ : Call) → stepOf c ≡ stepOf c′ → Made h c → Made h c′ →
+pub results-alike : {h : Host} {wd : World} → Shows h wd → Reached wd → (c c′ : Call) → callStep c ≡ callStep c′ → Made h c → Made h c′ →
     sameHost h (after c h) ≡ sameHost h (after c′ h)
 results-alike {wd = wd} is r c c′ e made made′ =
     sameHost-world is (follows is r c made .shows)
@@ -42,8 +42,8 @@ results-alike {wd = wd} is r c c′ e made made′ =
     ∙ sym (sameHost-world is (follows is r c′ made′ .shows))
 
 -- a window is joined by a call as by its step
-joinedBy-step : (w : ℕ) (c : Call) (r : Reply) (b : Bool) → Delivery.begins (stepOf c) r ≡ begins c →
-    joinedBy w c b ≡ Delivery.joinedBy w (stepOf c) r b
+joinedBy-step : (w : ℕ) (c : Call) (r : Reply) (b : Bool) → Delivery.begins (callStep c) r ≡ begins c →
+    joinedBy w c b ≡ Delivery.joinedBy w (callStep c) r b
 joinedBy-step w (main i g) r b e = refl
 joinedBy-step w (catch v t i g) r b e = refl
 joinedBy-step w (written v t g) r b e = refl
@@ -60,29 +60,29 @@ joinedBy-step w (append x) r b e = refl
 -- A list of calls
 
 pub hostAfter-shows : {h : Host} {wd : World} → Shows h wd → Reached wd → (cs : List Call) → MadeAll h cs →
-    Shows (hostAfter h cs) (run wd (map stepOf cs))
+    Shows (hostAfter h cs) (run wd (map callStep cs))
 unfolding hostAfter run
 hostAfter-shows is r [] made = is
 hostAfter-shows {wd = wd} is r (c ∷ cs) (first, rest) =
-    hostAfter-shows (follows is r c first .shows) (reached-step wd (stepOf c) r) cs rest
+    hostAfter-shows (follows is r c first .shows) (reached-step wd (callStep c) r) cs rest
 
 pub changes-steps : (n : ℕ) {h : Host} {wd : World} → Shows h wd → Reached wd → (cs : List Call) → MadeAll h cs →
-    changes n h cs ≡ Delivery.changes n wd (map stepOf cs)
+    changes n h cs ≡ Delivery.changes n wd (map callStep cs)
 unfolding changes Delivery.changes
 changes-steps n is r [] made = refl
 changes-steps n {h} {wd} is r (c ∷ cs) (first, rest) =
     let f = follows is r c first in
     let m : ℕ = cond (begins c) 0 (cond (sameHost h (after c h)) n (suc n)) in
-    changes-steps m (f .shows) (reached-step wd (stepOf c) r) cs rest
-    ∙ ap (λ m. Delivery.changes m (step (stepOf c) wd .world) (map stepOf cs))
+    changes-steps m (f .shows) (reached-step wd (callStep c) r) cs rest
+    ∙ ap (λ m. Delivery.changes m (step (callStep c) wd .world) (map callStep cs))
     (ap₂ (λ a b. cond a 0 (cond b n (suc n))) (sym (f .anew)) (sameHost-world is (f .shows)))
 
 pub joinedAfter-steps : (w : ℕ) (b : Bool) {h : Host} {wd : World} → Shows h wd → Reached wd → (cs : List Call) → MadeAll h cs →
-    joinedAfter w b cs ≡ Delivery.joinedAfter w b wd (map stepOf cs)
+    joinedAfter w b cs ≡ Delivery.joinedAfter w b wd (map callStep cs)
 unfolding joinedAfter Delivery.joinedAfter
 joinedAfter-steps w b is r [] made = refl
 joinedAfter-steps w b {h} {wd} is r (c ∷ cs) (first, rest) =
     let f = follows is r c first in
-    joinedAfter-steps w (joinedBy w c b) (f .shows) (reached-step wd (stepOf c) r) cs rest
-    ∙ ap (λ d. Delivery.joinedAfter w d (step (stepOf c) wd .world) (map stepOf cs))
-    (joinedBy-step w c (step (stepOf c) wd .reply) b (f .anew))
+    joinedAfter-steps w (joinedBy w c b) (f .shows) (reached-step wd (callStep c) r) cs rest
+    ∙ ap (λ d. Delivery.joinedAfter w d (step (callStep c) wd .world) (map callStep cs))
+    (joinedBy-step w c (step (callStep c) wd .reply) b (f .anew))

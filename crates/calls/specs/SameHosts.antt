@@ -10,14 +10,14 @@ use Rattle.delivery.specs.Same.{sameList, sameWindow, sameRecord, sameEntry, sa
 use Rattle.delivery.specs.Same as Delivery
 use Rattle.calls.specs.Host.{Sent, WindowEnd, Host}
 use Rattle.calls.specs.Statement.{sameSent, sameEnd, sameHost}
-use Rattle.calls.specs.Shows.{sentOf, endOf, Shows}
+use Rattle.calls.specs.Shows.{inNumbers, endOf, Shows}
 
 -- ------------------------------------------------------------------------
 -- sameSent, sameList
 
-sameSent-sentOf : (a b : W.Sent) → sameSent (sentOf a) (sentOf b) ≡ Delivery.sameSent a b
+sameSent-inNumbers : (a b : W.Sent) → sameSent (inNumbers a) (inNumbers b) ≡ Delivery.sameSent a b
 unfolding sameSent Delivery.sameSent sameEntry sameList
-sameSent-sentOf a b = simp (and-assoc, and-true)
+sameSent-inNumbers a b = simp (and-assoc, and-true)
 
 sameList-map : {A B : Type 0} (f : A → A → Bool) (g : B → B → Bool) (k : B → A) → ((a b : B) → f (k a) (k b) ≡ g a b) →
     (xs ys : List B) → sameList f (map k xs) (map k ys) ≡ sameList g xs ys
@@ -34,7 +34,7 @@ sameSide-end : (p q : Side) → sameSide p q ≡ (sameWindow (p .view) (q .view)
 unfolding sameSide sameEnd
 sameSide-end p q =
     ap (λ l. sameWindow (p .view) (q .view) && (sameRecord (p .record′) (q .record′) && (l && sameList sameAck (p .back) (q .back))))
-    (sym (sameList-map sameSent Delivery.sameSent sentOf sameSent-sentOf (p .line) (q .line)))
+    (sym (sameList-map sameSent Delivery.sameSent inNumbers sameSent-inNumbers (p .line) (q .line)))
 
 -- four tests in another order
 and-across : (a b x y : Bool) → ((a && b) && (x && y)) ≡ ((a && x) && (b && y))

@@ -25,7 +25,7 @@ use Rattle.delivery.specs.KeepSend.{keep-send}
 use Rattle.delivery.specs.Reach.{read-in}
 use Rattle.delivery.specs.Worlds.{entries-in, window-in, windows-in}
 use Rattle.calls.specs.Host.{batchIn}
-use Rattle.calls.specs.Shows.{sentOf}
+use Rattle.calls.specs.Shows.{inNumbers}
 
 -- ------------------------------------------------------------------------
 -- Rising
@@ -51,14 +51,14 @@ record Rises (xs : List ℕ) : Type 0 where
 
 -- an output that starts with the numbers of a rising batch has that batch, up to its last index
 batchIn-onLine : (j : List Entry) (t : Term) (a b : ℕ) (xs more : List ℕ) → isEmpty xs ≡ false → Rising a xs b →
-    batchIn (lastOr 0 xs) t (batchNumbers j xs ++ more) ≡ map sentOf (onLine j t xs)
+    batchIn (lastOr 0 xs) t (batchNumbers j xs ++ more) ≡ map inNumbers (onLine j t xs)
 unfolding batchIn batchNumbers onLine
 batchIn-onLine j t a b [] more some r = absurd (true≢false some)
 batchIn-onLine j t a b (x ∷ []) more some r = rw (eq-eqb x x refl)
 batchIn-onLine j t a b (x ∷ y ∷ xs) more some r =
     let below : x < lastOr y xs = rising-last x b y xs (r .2) in
     rw (ne-eqb x (lastOr y xs) (λ e. omega arith))
-    (ap (λ l. sentOf (record { placed = placedAt j x; term = t; ends = false }) ∷ l) (batchIn-onLine j t x b (y ∷ xs) more refl (r .2)))
+    (ap (λ l. inNumbers (record { placed = placedAt j x; term = t; ends = false }) ∷ l) (batchIn-onLine j t x b (y ∷ xs) more refl (r .2)))
 
 -- ------------------------------------------------------------------------
 -- The batch of a reached world rises
@@ -112,7 +112,7 @@ pub sendOutput-onLine : (wd : World) → Reached wd → (w : ℕ) (lent : List �
     let o : Outcome = sendRule (numbersIn wd) w (length lent) (playerIn wd) in
     o .answer ≡ 0 →
     batchIn (windowAt w (o .next) .sent) (windowAt w (o .next) .term) (sendOutput (numbersIn wd) w lent (playerIn wd))
-    ≡ map sentOf (onLine (wd .journal) (sideAt w wd .view .term) (batchAt w (playerIn wd)))
+    ≡ map inNumbers (onLine (wd .journal) (sideAt w wd .view .term) (batchAt w (playerIn wd)))
 unfolding sendOutput
 sendOutput-onLine wd r w lent z =
     let ns : List ℕ = numbersIn wd in
@@ -134,4 +134,4 @@ sendOutput-onLine wd r w lent z =
     (ap (λ v. v .sent) is ∙ launched-sending (p .limit) v .sent)
     (ap (λ v. v .term) is ∙ launched-sending (p .limit) v .term ∙ ap (λ v. v .term) (window-in w wd))
     ∙ batchIn-onLine (entriesOf ns) (sideAt w wd .view .term) _ _ xs more (d .turn .some) (rises .rising)
-    ∙ ap (λ j. map sentOf (onLine j (sideAt w wd .view .term) xs)) (entries-in wd))
+    ∙ ap (λ j. map inNumbers (onLine j (sideAt w wd .view .term) xs)) (entries-in wd))

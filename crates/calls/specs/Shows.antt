@@ -23,13 +23,13 @@ use Rattle.delivery.specs.World as W
 use Rattle.delivery.specs.Worlds.{window-in, withPlayer-player, withSide-player, withWindow-same}
 use Rattle.calls.specs.Host.{Sent, WindowEnd, Host, endAt, heldFor, isLate, withPlayer, withEnd, changed, called}
 
--- an entry on a world's line, as the host holds it
-abbrev pub sentOf : W.Sent → Sent
-sentOf s = record { numbers = fiveOf (s .placed); term = s .term; ends = s .ends }
+-- an entry on a world's line in five numbers, as the host holds it
+abbrev pub inNumbers : W.Sent → Sent
+inNumbers s = record { numbers = fiveOf (s .placed); term = s .term; ends = s .ends }
 
 -- a window's side of a world, but for what the player holds for it
 abbrev pub endOf : Side → WindowEnd
-endOf p = record { record′ = p .record′; line = map sentOf (p .line); back = p .back; taken = map fiveOf (p .taken) }
+endOf p = record { record′ = p .record′; line = map inNumbers (p .line); back = p .back; taken = map fiveOf (p .taken) }
 
 pub record Shows (h : Host) (wd : World) : Type 0 where
   pub player : playerOf (h .player) ≡ playerIn wd

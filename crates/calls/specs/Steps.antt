@@ -25,23 +25,23 @@ use Rattle.calls.specs.Statement.{begins}
 use Rattle.calls.specs.Shows.{Shows, Gives, shows-late, shows-meets, shows-player}
 
 -- the step of a call
-abbrev pub stepOf : Call → Step
-stepOf (main i r) = W.main (i .0)
-stepOf (catch w t i r) = W.catch w t (i .0)
-stepOf (written w t r) = W.written w t
-stepOf (send w lent r out) = W.send w lent
-stepOf (take w t) = W.take w
-stepOf (ack w r) = W.ack w
-stepOf (late-ack w t i r) = W.late-ack w t (i .0)
-stepOf (drop w r) = W.drop w
-stepOf (join w r) = W.join w
-stepOf (start limit r) = W.start limit
-stepOf (append e) = W.append e
+abbrev pub callStep : Call → Step
+callStep (main i r) = W.main (i .0)
+callStep (catch w t i r) = W.catch w t (i .0)
+callStep (written w t r) = W.written w t
+callStep (send w lent r out) = W.send w lent
+callStep (take w t) = W.take w
+callStep (ack w r) = W.ack w
+callStep (late-ack w t i r) = W.late-ack w t (i .0)
+callStep (drop w r) = W.drop w
+callStep (join w r) = W.join w
+callStep (start limit r) = W.start limit
+callStep (append e) = W.append e
 
 -- after a call the host shows the world after its step, and the count of changes begins anew at both or at neither
 pub record Follows (c : Call) (h : Host) (wd : World) : Type 0 where
-  pub shows : Shows (after c h) (step (stepOf c) wd .world)
-  pub anew : Delivery.begins (stepOf c) (step (stepOf c) wd .reply) ≡ begins c
+  pub shows : Shows (after c h) (step (callStep c) wd .world)
+  pub anew : Delivery.begins (callStep c) (step (callStep c) wd .reply) ≡ begins c
 
 -- ------------------------------------------------------------------------
 -- The number of windows
@@ -59,9 +59,9 @@ lawful-count {w = w} {p = p} {o = o} law =
 -- Main, Catch, Written, a late Ack, Drop
 
 module _ {h : Host} {wd : World} (is : Shows h wd) where
-  pub count-kept : {w : ℕ} {o : Outcome} {x : Effect} → LawfulRule (numbersIn wd) w (playerIn wd) o x →
+  pub count-sides : {w : ℕ} {o : Outcome} {x : Effect} → LawfulRule (numbersIn wd) w (playerIn wd) o x →
       length (o .next .windows) ≡ length (wd .sides)
-  count-kept law = lawful-count law ∙ windows-in wd
+  count-sides law = lawful-count law ∙ windows-in wd
 
   -- a call of the player, and nothing else
   called-alone : {r : Played} (o : Outcome) → Gives r o → length (o .next .windows) ≡ length (wd .sides) →
@@ -86,7 +86,7 @@ module _ {h : Host} {wd : World} (is : Shows h wd) where
   follows-catch w t i r made = record {
     shows =
         called-alone _ (shows-meets is (λ ns p. catchRule ns w t (i .0) p) made)
-        (count-kept (catchRule-lawful (numbersIn wd) w t (i .0) (playerIn wd)));
+        (count-sides (catchRule-lawful (numbersIn wd) w t (i .0) (playerIn wd)));
     anew = refl;
   }
 
@@ -95,7 +95,7 @@ module _ {h : Host} {wd : World} (is : Shows h wd) where
   follows-written w t r made = record {
     shows =
         called-alone _ (shows-meets is (λ ns p. writtenRule ns w t p) made)
-        (count-kept (writtenRule-lawful (numbersIn wd) w t (playerIn wd)));
+        (count-sides (writtenRule-lawful (numbersIn wd) w t (playerIn wd)));
     anew = refl;
   }
 
@@ -106,7 +106,7 @@ module _ {h : Host} {wd : World} (is : Shows h wd) where
         shows =
             rw (sym (shows-late is w t) ∙ late)
             (called-alone _ (shows-meets is (λ ns p. ackRule ns w t (i .0) p) made)
-            (count-kept (ackRule-lawful (numbersIn wd) w t (i .0) (playerIn wd))));
+            (count-sides (ackRule-lawful (numbersIn wd) w t (i .0) (playerIn wd))));
         anew = refl;
       }
 
@@ -114,7 +114,7 @@ module _ {h : Host} {wd : World} (is : Shows h wd) where
   unfolding step after
   follows-drop w r made =
       let k = shows-meets is (λ ns p. dropRule ns w p) made in
-      record { shows = called-alone _ k (count-kept (dropRule-lawful (numbersIn wd) w (playerIn wd))); anew = answer-same _ k }
+      record { shows = called-alone _ k (count-sides (dropRule-lawful (numbersIn wd) w (playerIn wd))); anew = answer-same _ k }
 
   -- ------------------------------------------------------------------------
   -- An append

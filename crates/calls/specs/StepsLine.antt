@@ -24,9 +24,9 @@ use Rattle.delivery.specs.World as W
 use Rattle.delivery.specs.Invariant.{Reached, lastOf}
 use Rattle.delivery.specs.Worlds.{windows-in}
 use Rattle.calls.specs.Host.{Sent, Host, newEnd, endAt, withEnd, withLines, cleared, clearedAll, putOn, send, take, ack, join, start, reportOf, MadeTake, MadeAck, Made, batchIn, batchTo, takeFront, ackFront, after}
-use Rattle.calls.specs.Shows.{sentOf, endOf, Shows, Gives, shows-count, shows-end, shows-rule, shows-meets, shows-side, shows-called, shows-changed}
+use Rattle.calls.specs.Shows.{inNumbers, endOf, Shows, Gives, shows-count, shows-end, shows-rule, shows-meets, shows-side, shows-called, shows-changed}
 use Rattle.calls.specs.Sends.{sendOutput-onLine}
-use Rattle.calls.specs.Steps.{Follows, count-kept, answer-same}
+use Rattle.calls.specs.Steps.{Follows, count-sides, answer-same}
 
 -- ------------------------------------------------------------------------
 -- Take
@@ -40,15 +40,15 @@ taken-more l p false = refl
 -- a window's end once its front entry is taken
 takeFront-end : (p : Side) (s : W.Sent) (rest : List W.Sent) (t : Taken) →
     Take.outcomeOf t ≡ takeNumbers (fiveOf (s .placed)) (p .record′) →
-    takeFront t (map sentOf (s ∷ rest)) (endOf p) ≡ endOf (W.takeFront s rest p)
+    takeFront t (map inNumbers (s ∷ rest)) (endOf p) ≡ endOf (W.takeFront s rest p)
 unfolding W.takeFront
 takeFront-end p s rest t made =
     let back : List Ack = cond (s .ends) (p .back ++ (record { term = s .term; index = s .placed .index } ∷ [])) (p .back) in
-    ap (λ l. record { record′ = t .record; line = map sentOf rest; back = back; taken = l })
+    ap (λ l. record { record′ = t .record; line = map inNumbers rest; back = back; taken = l })
     (taken-more (p .taken) (s .placed) (eqb (Take.numberOf (t .answer)) 0))
     ∙ ap (λ o. record {
       record′ = o .record′;
-      line = map sentOf rest;
+      line = map inNumbers rest;
       back = back;
       taken = map fiveOf (cond (eqb (o .number) 0) (p .taken ++ (s .placed ∷ [])) (p .taken));
     }) made
@@ -66,8 +66,8 @@ module _ {h : Host} {wd : World} (is : Shows h wd) where
       ∙ ap (λ d. withEnd w d h) (shows-end is w))
       is
 
-  take-line : (w : ℕ) (t : Taken) (l : List W.Sent) → MadeTake t (map sentOf l) (sideAt w wd .record′) →
-      Shows (withEnd w (takeFront t (map sentOf l) (endOf (sideAt w wd))) h) (takeAtLine w l wd .world)
+  take-line : (w : ℕ) (t : Taken) (l : List W.Sent) → MadeTake t (map inNumbers l) (sideAt w wd .record′) →
+      Shows (withEnd w (takeFront t (map inNumbers l) (endOf (sideAt w wd))) h) (takeAtLine w l wd .world)
   unfolding W.takeFront
   take-line w t [] made = end-same w
   take-line w t (s ∷ rest) made =
@@ -77,8 +77,9 @@ module _ {h : Host} {wd : World} (is : Shows h wd) where
   unfolding step after
   follows-take w t made =
       let p : Side = sideAt w wd in
-      let made′ : MadeTake t (map sentOf (p .line)) (p .record′) = subst (λ d. MadeTake t (d .line) (d .record′)) (shows-end is w) made in
-      let at : Shows (withEnd w (takeFront t (map sentOf (p .line)) (endOf p)) h) (step (W.take w) wd .world)
+      let made′ : MadeTake t (map inNumbers (p .line)) (p .record′) =
+      subst (λ d. MadeTake t (d .line) (d .record′)) (shows-end is w) made in
+      let at : Shows (withEnd w (takeFront t (map inNumbers (p .line)) (endOf p)) h) (step (W.take w) wd .world)
       = ⊎-elim
       (λ (n : length (wd .sides) ≤ w).
       rw (le-ltb w (length (wd .sides)) n, sideAt-none wd w n)
@@ -98,7 +99,7 @@ module _ {h : Host} {wd : World} (is : Shows h wd) where
   ack-line w r (a ∷ rest) made =
       shows-changed is w r (ackRule (numbersIn wd) w (a .term) (a .index) (playerIn wd)) (λ d. withLines (d .line) rest d)
       (λ p. W.withLines (p .line) rest p) (shows-meets is (λ ns p. ackRule ns w (a .term) (a .index) p) made)
-      (count-kept is (ackRule-lawful (numbersIn wd) w (a .term) (a .index) (playerIn wd))) (λ z p. refl) (λ p. refl)
+      (count-sides is (ackRule-lawful (numbersIn wd) w (a .term) (a .index) (playerIn wd))) (λ z p. refl) (λ p. refl)
 
   pub follows-ack : (w : ℕ) (r : Played) → Made h (ack w r) → Follows (ack w r) h wd
   unfolding step after
@@ -125,7 +126,7 @@ module _ {h : Host} {wd : World} (is : Shows h wd) where
       record {
         shows =
             shows-changed is w r (joinRule (numbersIn wd) w report (playerIn wd)) cleared W.cleared k
-            (count-kept is (joinRule-lawful (numbersIn wd) w report (playerIn wd))) (λ z p. refl) (λ p. refl);
+            (count-sides is (joinRule-lawful (numbersIn wd) w report (playerIn wd))) (λ z p. refl) (λ p. refl);
         anew = answer-same is _ k;
       }
 
@@ -139,7 +140,7 @@ module _ {h : Host} {wd : World} (is : Shows h wd) where
       let o : Outcome = sendRule (numbersIn wd) w (length lent) (playerIn wd) in
       let k : Gives r o = shows-meets is (λ ns p. sendRule ns w (length lent) p) made in
       let batch : List W.Sent = onLine (wd .journal) (sideAt w wd .view .term) (batchAt w (playerIn wd)) in
-      let read : o .answer ≡ 0 → batchTo w (r .player) out ≡ map sentOf batch
+      let read : o .answer ≡ 0 → batchTo w (r .player) out ≡ map inNumbers batch
       = λ z.
       ap₂ (λ q out. batchIn (windowAt w q .sent) (windowAt w q .term) out) (k .next)
       (wrote ∙ ap₂ (λ ns p. sendOutput ns w lent p) (is .journal) (is .player))
@@ -147,10 +148,10 @@ module _ {h : Host} {wd : World} (is : Shows h wd) where
       record {
         shows =
             shows-changed is w r o (putOn (batchTo w (r .player) out)) (λ p. W.withLines (p .line ++ batch) (p .back) p) k
-            (count-kept is (sendRule-lawful (numbersIn wd) w (length lent) (playerIn wd)))
+            (count-sides is (sendRule-lawful (numbersIn wd) w (length lent) (playerIn wd)))
             (λ z p.
             ap (λ l. withLines l (p .back) (endOf p))
-            (ap (λ b. map sentOf (p .line) ++ b) (read z) ∙ sym (map-append sentOf (p .line) batch)))
+            (ap (λ b. map inNumbers (p .line) ++ b) (read z) ∙ sym (map-append inNumbers (p .line) batch)))
             (λ p. refl);
         anew = refl;
       }

@@ -1,8 +1,10 @@
 -- Runs computed on the rules. An example computes the definitions themselves, and no law of them is used: each is true by `refl`.
-use Prim.Native.Nat.{ℕ}
+use Prim.Native.Nat.{ℕ, _+_, _*_}
 use mathlib.Core.Path.{_≡_, refl}
 use mathlib.Core.List.{List, [], _∷_}
-use lib.ListN.{replicate}
+use mathlib.Core.Bool.{true, false}
+use lib.ListN.{length, replicate}
+use lib.Dec.{leb}
 use Rattle.journal.specs.declared.Entry.{Entry}
 use Rattle.journal.specs.Entry.{entry4, numbersOf, entriesOf, entryAt, hasWindow, isFor}
 use Rattle.lists.specs.All.{all}
@@ -13,6 +15,8 @@ use Rattle.rules.specs.Shape.{windowShape, allWindows, shape}
 use Rattle.rules.specs.Window.{check, enqueue, mainAt, fetched, catchIn, catchAt, readyIn, batchOf, launched, sendAt, writtenAt, struck, ackAt, dropAt, joinAt}
 use Rattle.rules.specs.Rules.{operate, mapWindows, mainRule, catchRule, writtenRule, ackRule, dropRule, joinRule, sendRule, areReports, least, startRule}
 use Rattle.delivery.specs.World.{World, sideAt, withViews, withPlayer, onLine, takeFront, Step, main, catch, written, send, take, ack, drop, join, start, Reply, answered, empty, step, run, opened}
+use Rattle.delivery.specs.Same.{sameList, sameWindow, sameRace, sameRecord, sameEntry, sameSent, sameAck, sameSide, sameWorld}
+use Rattle.delivery.specs.Statement.{changes, joinedAfter}
 
 -- the replies of a list of steps
 unfoldable pub replies : World → List Step → List Reply
@@ -29,6 +33,11 @@ unfolding
     raceAfter racesAfter recordAfter takeEntry takeNumbers
     numbersOf entriesOf entryAt hasWindow isFor
 computed = tt
+
+-- to unfold this is to unfold the definitions that changes are counted with
+counted : Unit {0}
+unfolding changes joinedAfter sameWorld sameSide sameWindow sameRecord sameRace sameSent sameEntry sameAck sameList
+counted = tt
 
 abbrev pub done : Reply
 done = answered 0
@@ -87,3 +96,28 @@ pub record StartInBatch : Type 0 where
 pub start-in-batch : StartInBatch
 unfolding computed
 start-in-batch = record { answers = refl; window0 = refl }
+
+-- ------------------------------------------------------------------------
+-- The bound of demand 3
+
+-- One entry for two windows, both of which join when it is read: then each fetches it, gets it sent and written, takes and acknowledges it.
+abbrev pub fiveMoves : List Step
+fiveMoves =
+    main 1 ∷ drop 0 ∷ drop 1 ∷ join 0 ∷ join 1
+    ∷ catch 0 (term 2) 1 ∷ send 0 room ∷ written 0 (term 2) ∷ take 0 ∷ ack 0
+    ∷ catch 1 (term 2) 1 ∷ send 1 room ∷ written 1 (term 2) ∷ take 1 ∷ ack 1 ∷ []
+
+abbrev pub oneEntry : World
+oneEntry = openedWith (entry4 3 1 1 50400 ∷ []) 2
+
+-- With all windows joined, five moves at each window since the last Join changed something. That is not at most L × (1 + 4 × W): the bound
+-- counts no fewer than five moves.
+pub record FiveNeeded : Type 0 where
+  pub changed : changes 0 oneEntry fiveMoves ≡ 10
+  pub joined0 : joinedAfter 0 true oneEntry fiveMoves ≡ true
+  pub joined1 : joinedAfter 1 true oneEntry fiveMoves ≡ true
+  pub four : leb (changes 0 oneEntry fiveMoves) (length (run oneEntry fiveMoves .journal) * (1 + 4 * 2)) ≡ false
+
+pub five-needed : FiveNeeded
+unfolding computed counted
+five-needed = record { changed = refl; joined0 = refl; joined1 = refl; four = refl }

@@ -1,104 +1,112 @@
--- A list of calls computed: it is made, what Send wrote is on the line, and what the window has taken is what the journal has for it.
+-- A batch read from an output; and a list of calls of every kind, from a Start, computed on the steps that it makes.
 use Prim.Native.Nat.{ℕ}
-use mathlib.Core.Path.{_≡_, refl}
-use mathlib.Core.List.{List, [], _∷_}
+use mathlib.Core.Path.{_≡_, refl, ap, _∙_}
+use mathlib.Core.List.{List, [], _∷_, map}
 use mathlib.Core.Bool.{true}
-use lib.ListN.{length, replicate}
+use native.Mathlib.Omega.{arith}
+use lib.ListN.{replicate}
 use Rattle.lists.specs.Cells.{front}
-use Rattle.lists.specs.All.{all}
-use Rattle.journal.specs.Entry.{Placed, entry4, numbersOf, entriesOf, entryAt, hasWindow, isFor}
+use Rattle.journal.specs.Entry.{entry4, entriesOf}
 use Rattle.queue.specs.Items.{itemsOf, batchesOf}
-use Rattle.record.specs.Record.{raceAfter, racesAfter, recordAfter, takeEntry, takeNumbers}
-use Rattle.rules.specs.declared.Term.{Term}
-use Rattle.rules.specs.Shape.{windowShape, allWindows, shape}
-use Rattle.rules.specs.Window.{check, enqueue, mainAt, readyIn, batchOf, launched, sendAt, struck, ackAt}
-use Rattle.rules.specs.Rules.{operate, mapWindows, mainRule, ackRule, sendRule, sendOutput, batchNumbers, areReports, least, startRule}
+use Rattle.rules.specs.Rules.{startRule}
+use Rattle.window.specs.declared.Answer.the-variants.{Done}
 use Rattle.window.specs.View.{viewOf}
+use Rattle.player.specs.declared.Player.{Player}
+use Rattle.player.specs.declared.Played.{Played}
 use Rattle.player.specs.View.{firstWindows, playerOf}
-use Rattle.player.specs.Promise.{freshWindows, freshPlayer}
-use Rattle.calls.specs.Host.{Host, endAt, Call, main, send, take, ack, MadeAll, batchIn, after, hostAfter, opened}
-use Rattle.calls.specs.Held.{playedFor, playedFor-meets, takenFor}
-use Rattle.calls.specs.Held as Held
-
-abbrev pub term1 : Term
-term1 = record { 0 = 1 }
+use Rattle.player.specs.Promise.{freshWindows, freshPlayer, Starts}
+use Rattle.delivery.specs.World.{World, sideAt, Step, main, catch, written, send, take, ack, late-ack, drop, join, start, append, answered, run}
+use Rattle.delivery.specs.World as W
+use Rattle.delivery.specs.Statement.{firstStart}
+use Rattle.delivery.specs.Demand3.{opened-reached}
+use Rattle.delivery.specs.Examples.{replies, computed, done, term, room}
+use Rattle.calls.specs.Host.{Host, endAt, Call, MadeAll, batchIn, hostAfter, opened}
+use Rattle.calls.specs.Statement.{Leading, Delivers}
+use Rattle.calls.specs.Shows.{endOf, shows-end}
+use Rattle.calls.specs.Steps.{callStep}
+use Rattle.calls.specs.Runs.{hostAfter-shows}
+use Rattle.calls.specs.Demand3Calls.{opened-shows, demand-3-calls}
+use Rattle.promises.specs.CallsFor.{allMade, CallsFor, calls-for}
 
 -- the batch in an output of ten numbers, of which Send has written the first five
-pub batch-of-one : batchIn 4 term1 (4 ∷ 3 ∷ 1 ∷ 1 ∷ 50400 ∷ 7 ∷ 7 ∷ 7 ∷ 7 ∷ 7 ∷ [])
-    ≡ record { numbers = 4 ∷ 3 ∷ 1 ∷ 1 ∷ 50400 ∷ []; term = term1; ends = true } ∷ []
+pub batch-of-one : batchIn 4 (term 1) (4 ∷ 3 ∷ 1 ∷ 1 ∷ 50400 ∷ 7 ∷ 7 ∷ 7 ∷ 7 ∷ 7 ∷ [])
+    ≡ record { numbers = 4 ∷ 3 ∷ 1 ∷ 1 ∷ 50400 ∷ []; term = term 1; ends = true } ∷ []
 unfolding batchIn
 batch-of-one = refl
 
 -- ------------------------------------------------------------------------
--- Calls that are answered 0, as their rules say
-
-abbrev pub mainCall : ℕ → Host → Call
-mainCall i h = main (record { 0 = i }) (playedFor (h .player) (mainRule (h .journal) i (playerOf (h .player))))
-
-abbrev pub sendCall : ℕ → List ℕ → Host → Call
-sendCall w lent h =
-    send w lent (playedFor (h .player) (sendRule (h .journal) w (length lent) (playerOf (h .player))))
-    (sendOutput (h .journal) w lent (playerOf (h .player)))
-
-abbrev pub takeCall : ℕ → Placed → Host → Call
-takeCall w p h = take w (takenFor p (endAt w h .record′))
-
-abbrev pub ackCall : ℕ → Term → ℕ → Host → Call
-ackCall w t i h = ack w (playedFor (h .player) (ackRule (h .journal) w t i (playerOf (h .player))))
-
--- each call handed what those before it left
-unfoldable pub callsFrom : Host → List (Host → Call) → List Call
-callsFrom h [] = []
-callsFrom h (c ∷ cs) = c h ∷ callsFrom (after (c h) h) cs
-
--- ------------------------------------------------------------------------
--- Two windows and a journal of three entries: window 0 takes the first two as one batch and acknowledges it
-
--- to unfold this is to unfold the definitions that a run computes with
-computed : Unit {0}
-unfolding
-    callsFrom hostAfter after batchIn
-    playedFor takenFor Held.takenBy Held.playerFrom Held.windowFrom Held.conditionFrom Held.queueFrom Held.batchesFrom Held.filled
-    freshWindows playerOf firstWindows viewOf itemsOf batchesOf front
-    startRule areReports least mainRule ackRule sendRule sendOutput batchNumbers operate mapWindows
-    shape windowShape allWindows all
-    check enqueue mainAt readyIn batchOf launched sendAt struck ackAt
-    raceAfter racesAfter recordAfter takeEntry takeNumbers
-    numbersOf entriesOf entryAt hasWindow isFor
-computed = tt
+-- Two windows, batch limit 2, and a journal of three entries, whatever player there was before
 
 abbrev pub journal3 : List ℕ
 journal3 = 3 ∷ 1 ∷ 1 ∷ 50400 ∷ 1 ∷ 2 ∷ 1 ∷ 350 ∷ 2 ∷ 3 ∷ 1 ∷ 0 ∷ []
 
--- a Start of two windows with the batch limit 2
-abbrev pub begun : Host
-begun = opened (freshPlayer 2 2 (0 ∷ 0 ∷ [])) journal3 2
+-- what the Start gives
+abbrev pub begun : Played
+begun = record { player = freshPlayer 2 2 (replicate 2 0); answer = Done }
 
-abbrev pub batchCalls : List Call
-batchCalls =
-    callsFrom begun
-    (mainCall 1 ∷ mainCall 2 ∷ sendCall 0 (replicate 12 7)
-    ∷ takeCall 0 (record { index = 1; entry = entry4 3 1 1 50400 }) ∷ takeCall 0 (record { index = 2; entry = entry4 1 2 1 350 })
-    ∷ ackCall 0 term1 2 ∷ [])
+abbrev pub host0 : Host
+host0 = opened (begun .player) journal3 2
 
-pub record BatchTaken : Type 0 where
-  pub made : MadeAll begun batchCalls
-  pub taken : endAt 0 (hostAfter begun batchCalls) .taken ≡ (1 ∷ 3 ∷ 1 ∷ 1 ∷ 50400 ∷ []) ∷ (2 ∷ 1 ∷ 2 ∷ 1 ∷ 350 ∷ []) ∷ []
-  pub back : endAt 0 (hostAfter begun batchCalls) .back ≡ []
+-- a batch of two taken, its line dropped before the ack; the ack is refused, the window joins, and the ack comes late and is refused again;
+-- one more entry is appended, read, sent, taken and acknowledged; nothing is to be fetched; the player starts anew
+abbrev pub everyKind : List Step
+everyKind =
+    main 1 ∷ main 2 ∷ send 0 room ∷ take 0 ∷ take 0 ∷ drop 0 ∷ ack 0 ∷ join 0 ∷ late-ack 0 (term 1) 2
+    ∷ append (entry4 1 2 1 400) ∷ main 3 ∷ main 4 ∷ send 0 room ∷ written 0 (term 2) ∷ take 0 ∷ ack 0 ∷ catch 0 (term 2) 4 ∷ start 2 ∷ []
 
-pub batch-taken : BatchTaken
-unfolding computed
-batch-taken = record {
-  made = (
-    playedFor-meets _ _ refl refl,
-    (
-      playedFor-meets _ _ refl refl,
-      (
-        (playedFor-meets _ _ refl refl, refl),
-        (refl, (refl, (playedFor-meets _ _ refl refl, tt))),
-      ),
-    ),
-  );
-  taken = refl;
-  back = refl;
-}
+-- what window 0 has then taken
+abbrev pub taken0 : List (List ℕ)
+taken0 = (1 ∷ 3 ∷ 1 ∷ 1 ∷ 50400 ∷ []) ∷ (2 ∷ 1 ∷ 2 ∷ 1 ∷ 350 ∷ []) ∷ (4 ∷ 1 ∷ 2 ∷ 1 ∷ 400 ∷ []) ∷ []
+
+module _ (before : Player) where
+  -- the Start meets its promise and is answered 0
+  pub begun-starts : Starts before 2 2 (replicate 2 0) begun (startRule journal3 2 2 (replicate 2 0) (playerOf before))
+  unfolding computed playerOf firstWindows freshWindows viewOf itemsOf batchesOf front
+  begun-starts = record { answer = refl; next = refl; fresh = λ z. refl; unchanged = λ n. absurd (n refl) }
+
+  -- the world that the host shows
+  abbrev pub world0 : World
+  world0 = W.opened (entriesOf journal3) (firstStart (playerOf before) (entriesOf journal3) 2 2)
+
+  -- what the steps answer, all of which are made, and what window 0 has taken
+  pub record Computed : Type 0 where
+    pub all : allMade world0 everyKind ≡ true
+    pub answers : replies world0 everyKind ≡
+        done ∷ done ∷ done ∷ done ∷ done ∷ done ∷ answered 3 ∷ done ∷ answered 5
+        ∷ done ∷ done ∷ done ∷ done ∷ done ∷ done ∷ done ∷ answered 4 ∷ done ∷ []
+    pub taken : endOf (sideAt 0 (run world0 everyKind)) .taken ≡ taken0
+
+  pub every-kind : Computed
+  unfolding computed allMade
+  every-kind = record { all = refl; answers = refl; taken = refl }
+
+  first-done : firstStart (playerOf before) (entriesOf journal3) 2 2 .answer ≡ 0
+  unfolding computed
+  first-done = refl
+
+  -- A result to be read: a list of calls of every kind that meet their promises, what window 0 has then taken, and demand 3 of it.
+  pub record Ran : Type 0 where
+    pub calls : List Call
+    pub steps : map callStep calls ≡ everyKind
+    pub made : MadeAll host0 calls
+    pub taken : endAt 0 (hostAfter host0 calls) .taken ≡ taken0
+    pub leading : Leading (hostAfter host0 calls .journal) 0 (endAt 0 (hostAfter host0 calls))
+    pub delivers : Delivers 2 host0 calls
+
+  pub ran : Ran
+  ran =
+      let shows = opened-shows before journal3 2 2 begun begun-starts refl in
+      let reached = opened-reached (playerOf before) (entriesOf journal3) 2 2 first-done in
+      let c : CallsFor host0 everyKind = calls-for shows reached everyKind (every-kind .all) in
+      let delivers = demand-3-calls before journal3 2 2 begun begun-starts refl (c .calls) (c .made) in
+      record {
+        calls = c .calls;
+        steps = c .same;
+        made = c .made;
+        taken =
+            ap (λ d. d .taken) (shows-end (hostAfter-shows shows reached (c .calls) (c .made)) 0)
+            ∙ ap (λ ss. endOf (sideAt 0 (run world0 ss)) .taken) (c .same)
+            ∙ every-kind .taken;
+        leading = delivers .leading 0 (omega arith);
+        delivers = delivers;
+      }

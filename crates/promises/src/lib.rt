@@ -1,1 +1,1 @@
-// What the calls promise, held to what `calls` asks of them, and a run of the calls computed; the crate has no code.
+// What the calls promise, held to what `calls` asks of them; a list of calls for each list of steps; and a run, computed. No code.
