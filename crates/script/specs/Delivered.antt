@@ -1,18 +1,13 @@
 -- A script that the stage plays is a run that demand 3 speaks of, so what the records hold at its end are leading parts.
 use Prim.Native.Nat.{ℕ, _<_}
-use mathlib.Core.Path.{_≡_, sym, ap, _∙_}
+use mathlib.Core.Path.{_≡_, refl, sym, ap, _∙_}
 use mathlib.Core.List.{List, [], _∷_}
 use mathlib.Core.Bool.{true}
-use borrow.Author.Tests.{eqb-true}
-use lib.ListN.{length, take, replicate}
+use lib.ListN.{length, take}
 use Rattle.journal.specs.declared.Entry.{Entry}
 use Rattle.journal.specs.Entry.{inShape, entriesOf}
-use Rattle.journal.specs.EntryLaws.{numbersOf-entriesOf}
 use Rattle.journal.specs.Own.{own}
-use Rattle.lists.specs.Cases.{and-left}
 use Rattle.record.specs.Record.{newRecord, takeAll}
-use Rattle.rules.specs.Rules.{startRule}
-use Rattle.rules.specs.Offers.{startRule-done}
 use Rattle.delivery.specs.World.{World, sideAt, opened}
 use Rattle.delivery.specs.World as W
 use Rattle.delivery.specs.Statement.{firstStart}
@@ -20,10 +15,9 @@ use Rattle.delivery.specs.Demand3.{demand-3}
 use Rattle.script_line.specs.declared.Step.{Step}
 use Rattle.script.specs.declared.Stage.{Stage}
 use Rattle.script.specs.declared.Stepped.{Stepped}
-use Rattle.script.specs.declared.Opened.{Opened}
 use Rattle.script.specs.Stage.{worldOf, forgotten, stepIn, recordAt}
 use Rattle.script.specs.Promise.{Plays}
-use Rattle.script.specs.Opening.{noPlayer, Opens}
+use Rattle.script.specs.Opening.{noPlayer, openedBy, openedBy-journal, openedBy-done, openedBy-world}
 use Rattle.script.specs.Worlds.{worldOf-forgotten, Staged, worldOf-side}
 use Rattle.script.specs.Room.{Roomy, roomy-step, roomy-opened}
 use Rattle.script.specs.Shown.{forgotten-at, shown-few, shown-plays}
@@ -61,24 +55,20 @@ pub record LeadingRecord (j : List Entry) (w : ℕ) (s : Stage) : Type 0 where
 
 -- A result to be read: from an opened stage, whatever the script, each window's record is what Take makes of a new record lent the first k of
 -- its own entries, for some k
-pub script-delivers : (ns : List ℕ) (count : ℕ) (o : Opened) → Opens ns count o → o .ok ≡ true → (t : Stage) (sts : List Step) →
-    Script ns (o .stage) sts t → (w : ℕ) → w < count → LeadingRecord (entriesOf ns) w t
+pub script-delivers : (ns : List ℕ) (count : ℕ) → openedBy ns count .ok ≡ true → (t : Stage) (sts : List Step) →
+    Script ns (openedBy ns count .stage) sts t → (w : ℕ) → w < count → LeadingRecord (entriesOf ns) w t
 unfolding worldOf forgotten
-script-delivers ns count o opens ok t sts script w below =
-    let answer : startRule ns count 2 (replicate count 0) noPlayer .answer ≡ 0 = eqb-true _ _ (sym (opens .ok noPlayer) ∙ ok) in
-    let shape = startRule-done ns count 2 (replicate count 0) noPlayer answer .given .journal in
-    let numbers = numbersOf-entriesOf ns (eqb-true _ _ (and-left _ _ shape)) in
-    let done : firstStart noPlayer (entriesOf ns) count 2 .answer ≡ 0
-    = ap (λ x. startRule x count 2 (replicate count 0) noPlayer .answer) numbers ∙ answer in
+script-delivers ns count ok t sts script w below =
+    let done = openedBy-done ns count noPlayer ok in
     let first : World = opened (entriesOf ns) (firstStart noPlayer (entriesOf ns) count 2) in
     let last : World = W.run first (stepsIn first sts) in
     let end : Shows ns t last
-    = script-shows ns shape first
+    = script-shows ns (openedBy-journal ns count noPlayer ok) first
     (record {
-      world = sym (worldOf-forgotten (entriesOf ns) (o .stage)) ∙ ap forgotten (opens .world noPlayer ok);
+      world = sym (worldOf-forgotten (entriesOf ns) (openedBy ns count .stage)) ∙ ap forgotten (openedBy-world ns count noPlayer ok);
       roomy = roomy-opened noPlayer (entriesOf ns) count done;
-      records = opens .records;
-      lines = opens .lines;
+      records = refl;
+      lines = refl;
     })
     script in
     let held : Staged t = record {

@@ -11,6 +11,7 @@ pub mod Takes
 pub mod Sends
 pub mod Played
 pub mod Refused
+pub mod Above
 pub mod Opening
 pub mod Room
 pub mod Shown

@@ -19,6 +19,7 @@ use Rattle.script.specs.Worlds.{sideIn-absent, sideIn-present, storedAt-
 use Rattle.script.specs.Calls.{playable-facts}
 use Rattle.script.specs.Played.{Made, made, step-plays}
 use Rattle.script.specs.Refused.{step-refused}
+use Rattle.script.specs.Above.{step-above, same-above}
 use Rattle.script.proofs.Sixteen.{windows-length, records-length, lines-length, staged}
 use borrow.Author.Needs.{needs}
 use Rattle.script.proofs.Stage.step.Statement.{statement}
@@ -119,6 +120,10 @@ arm c r e =
           ∙ step-refused (numbers at) (stage at) (window at) (came .match .played) (came .match .out) (c .settled .result) (at .if3 .side)
           (came .before .call .result) (came .match .call) (sided at) (answers came)
           (rw (c .before .number .ensures) at (c .settled .ensures)) (ap (λ x. isRefusal (x .reply)) (sym e) ∙ h);
+      above =
+          rw e
+          (step-above (numbers at) (stage at) (window at) (came .before .call .result) (came .match .played) (came .match .out)
+          (c .settled .result) (answers came .answers));
       records =
           ap (λ x. length (x .stage .records)) e
           ∙ storedAt-length (window at) (stage at .player .count) (stage at .records) (c .settled .result .record)
@@ -153,6 +158,7 @@ returns c =
           (c .if1 .came));
       stuck = λ h. refl;
       refused = λ h. refl;
+      above = same-above _ _;
       records = records-length (args .t1) _ (c .before .before .before .before .before .good .0);
       lines = lines-length (args .t1) _ (c .before .before .before .before .before .good .0);
     }
@@ -191,6 +197,7 @@ returns-2 c =
       played = λ h. absurd (true≢false (sym (and-right (inShape (numbers at)) _ h) ∙ room (c .before) ∙ not-true _ (c .if4 .taken)));
       stuck = λ h. refl;
       refused = λ h. refl;
+      above = same-above _ _;
       records = records-length (stage at) _ (start at .good .0);
       lines = lines-length (stage at) _ (start at .good .0);
     }
