@@ -1,42 +1,37 @@
--- A script that the stage plays is a run that demand 3 speaks of, so what the records hold at its end are leading parts.
+-- A script that the stage plays is a run that demand 3 speaks of: its replies are the run's, and what the records hold at its end are leading
+-- parts.
 use Prim.Native.Nat.{ℕ, _<_}
-use mathlib.Core.Path.{_≡_, sym, ap, _∙_}
-use mathlib.Core.List.{List, [], _∷_}
+use mathlib.Core.Path.{_≡_, refl, sym, ap, ap₂, _∙_}
+use mathlib.Core.List.{List, [], _∷_, map}
 use mathlib.Core.Bool.{true}
-use borrow.Author.Tests.{eqb-true}
-use lib.ListN.{length, take, replicate}
+use lib.ListN.{length, take}
 use Rattle.journal.specs.declared.Entry.{Entry}
 use Rattle.journal.specs.Entry.{inShape, entriesOf}
-use Rattle.journal.specs.EntryLaws.{numbersOf-entriesOf}
 use Rattle.journal.specs.Own.{own}
-use Rattle.lists.specs.Cases.{and-left}
 use Rattle.record.specs.Record.{newRecord, takeAll}
-use Rattle.rules.specs.Rules.{startRule}
-use Rattle.rules.specs.Offers.{startRule-done}
+use Rattle.rules.specs.View.{PlayerView}
 use Rattle.delivery.specs.World.{World, sideAt, opened}
 use Rattle.delivery.specs.World as W
 use Rattle.delivery.specs.Statement.{firstStart}
+use Rattle.delivery.specs.Examples.{replies}
 use Rattle.delivery.specs.Demand3.{demand-3}
 use Rattle.script_line.specs.declared.Step.{Step}
 use Rattle.script.specs.declared.Stage.{Stage}
+use Rattle.script.specs.declared.Reply.{Reply}
 use Rattle.script.specs.declared.Stepped.{Stepped}
-use Rattle.script.specs.declared.Opened.{Opened}
-use Rattle.script.specs.Stage.{worldOf, forgotten, stepIn, recordAt}
+use Rattle.script.specs.Stage.{worldOf, forgotten, stepIn, stepsIn, replyOf, recordAt}
 use Rattle.script.specs.Promise.{Plays}
-use Rattle.script.specs.Opening.{noPlayer, Opens}
+use Rattle.script.specs.Opening.{openedBy, openedBy-journal, openedBy-done, openedBy-world}
 use Rattle.script.specs.Worlds.{worldOf-forgotten, Staged, worldOf-side}
 use Rattle.script.specs.Room.{Roomy, roomy-step, roomy-opened}
 use Rattle.script.specs.Shown.{forgotten-at, shown-few, shown-plays}
 
--- a script played from a stage to a stage: each step gives what `Stage::step` promises, and is handed what the step before gave
-pub data Script (ns : List ℕ) : Stage → List Step → Stage → Type 0 where
-  none : {s : Stage} → Script ns s [] s
-  more : {s t : Stage} {st : Step} {sts : List Step} (r : Stepped) → Plays ns s st r → Script ns (r .stage) sts t → Script ns s (st ∷ sts) t
-
--- the steps of the world that a script's steps are
-unfoldable pub stepsIn : World → List Step → List W.Step
-stepsIn wd [] = []
-stepsIn wd (s ∷ ss) = stepIn wd s ∷ stepsIn (W.step (stepIn wd s) wd .world) ss
+-- a script played from a stage to a stage, with its replies: each step gives what `Stage::step` promises, and is handed what the step before
+-- gave
+pub data Script (ns : List ℕ) : Stage → List Step → List Reply → Stage → Type 0 where
+  none : {s : Stage} → Script ns s [] [] s
+  more : {s t : Stage} {st : Step} {sts : List Step} {rs : List Reply} (r : Stepped) → Plays ns s st r → Script ns (r .stage) sts rs t →
+      Script ns s (st ∷ sts) (r .reply ∷ rs) t
 
 -- a stage shows a world that a script can reach
 record Shows (ns : List ℕ) (s : Stage) (wd : World) : Type 0 where
@@ -45,53 +40,79 @@ record Shows (ns : List ℕ) (s : Stage) (wd : World) : Type 0 where
   pub records : length (s .records) ≡ 16
   pub lines : length (s .lines) ≡ 16
 
-script-shows : (ns : List ℕ) → inShape ns ≡ true → {s t : Stage} {sts : List Step} (wd : World) → Shows ns s wd → Script ns s sts t →
-    Shows ns t (W.run wd (stepsIn wd sts))
-unfolding stepsIn W.run
-script-shows ns e wd h none = h
-script-shows ns e {s = s} wd h (more {st = st} r k rest) =
+-- the replies of a script, and the stage that it ends with
+record Follows (ns : List ℕ) (wd : World) (sts : List Step) (rs : List Reply) (t : Stage) : Type 0 where
+  pub replied : map replyOf rs ≡ replies wd (stepsIn wd sts)
+  pub shows : Shows ns t (W.run wd (stepsIn wd sts))
+
+script-follows : (ns : List ℕ) → inShape ns ≡ true → {s t : Stage} {sts : List Step} {rs : List Reply} (wd : World) → Shows ns s wd →
+    Script ns s sts rs t → Follows ns wd sts rs t
+unfolding stepsIn W.run replies
+script-follows ns e wd h none = record { replied = refl; shows = h }
+script-follows ns e {s = s} wd h (more {st = st} r k rest) =
     let next = shown-plays ns s wd st r e (h .world) (h .roomy) (h .records) (h .lines) k in
-    script-shows ns e (W.step (stepIn wd st) wd .world)
-    (record { world = next .1; roomy = roomy-step wd st (h .roomy); records = k .records; lines = k .lines }) rest
+    let after =
+    script-follows ns e (W.step (stepIn wd st) wd .world)
+    (record { world = next .1; roomy = roomy-step wd st (h .roomy); records = k .records; lines = k .lines }) rest in
+    record { replied = ap₂ _∷_ (next .0) (after .replied); shows = after .shows }
+
+-- ------------------------------------------------------------------------
+-- from an opened stage
+
+-- the replies, and each window's record, are those of a run of the world
+pub record Runs (first : World) (sts : List Step) (rs : List Reply) (t : Stage) : Type 0 where
+  pub replied : map replyOf rs ≡ replies first (stepsIn first sts)
+  pub records : (w : ℕ) → recordAt w t ≡ sideAt w (W.run first (stepsIn first sts)) .record′
 
 -- the record of window w is a leading part's
 pub record LeadingRecord (j : List Entry) (w : ℕ) (s : Stage) : Type 0 where
   pub k : ℕ
   pub folded : recordAt w s ≡ takeAll (take k (own j w)) newRecord
 
--- A result to be read: from an opened stage, whatever the script, each window's record is what Take makes of a new record lent the first k of
--- its own entries, for some k
-pub script-delivers : (ns : List ℕ) (count : ℕ) (o : Opened) → Opens ns count o → o .ok ≡ true → (t : Stage) (sts : List Step) →
-    Script ns (o .stage) sts t → (w : ℕ) → w < count → LeadingRecord (entriesOf ns) w t
-unfolding worldOf forgotten
-script-delivers ns count o opens ok t sts script w below =
-    let answer : startRule ns count 2 (replicate count 0) noPlayer .answer ≡ 0 = eqb-true _ _ (sym (opens .ok noPlayer) ∙ ok) in
-    let shape = startRule-done ns count 2 (replicate count 0) noPlayer answer .given .journal in
-    let numbers = numbersOf-entriesOf ns (eqb-true _ _ (and-left _ _ shape)) in
-    let done : firstStart noPlayer (entriesOf ns) count 2 .answer ≡ 0
-    = ap (λ x. startRule x count 2 (replicate count 0) noPlayer .answer) numbers ∙ answer in
-    let first : World = opened (entriesOf ns) (firstStart noPlayer (entriesOf ns) count 2) in
-    let last : World = W.run first (stepsIn first sts) in
-    let end : Shows ns t last
-    = script-shows ns shape first
-    (record {
-      world = sym (worldOf-forgotten (entriesOf ns) (o .stage)) ∙ ap forgotten (opens .world noPlayer ok);
-      roomy = roomy-opened noPlayer (entriesOf ns) count done;
-      records = opens .records;
-      lines = opens .lines;
-    })
-    script in
-    let held : Staged t = record {
-      few = shown-few (entriesOf ns) t last (end .world) (end .roomy) (end .records) (end .lines);
-      records = end .records;
-      lines = end .lines;
-    } in
-    let journal : entriesOf ns ≡ last .journal = ap (λ x. x .journal) (end .world) in
-    let leading = demand-3 noPlayer (entriesOf ns) count 2 (stepsIn first sts) done .leading w below in
-    record {
-      k = leading .k;
-      folded =
-          ap (λ p. p .record′) (sym (worldOf-side (entriesOf ns) t held w) ∙ ap (sideAt w) (end .world) ∙ forgotten-at w last)
-          ∙ leading .folded
-          ∙ ap (λ j. takeAll (take (leading .k) (own j w)) newRecord) (sym journal);
-    }
+module _ (ns : List ℕ) (count : ℕ) (before : PlayerView) (ok : openedBy ns count .ok ≡ true) (t : Stage) (sts : List Step) (rs : List Reply)
+    (script : Script ns (openedBy ns count .stage) sts rs t) where
+  abbrev first : World
+  first = opened (entriesOf ns) (firstStart before (entriesOf ns) count 2)
+
+  abbrev last : World
+  last = W.run first (stepsIn first sts)
+
+  followed : Follows ns first sts rs t
+  followed =
+      script-follows ns (openedBy-journal ns count before ok) first
+      (record {
+        world = sym (worldOf-forgotten (entriesOf ns) (openedBy ns count .stage)) ∙ ap forgotten (openedBy-world ns count before ok);
+        roomy = roomy-opened before (entriesOf ns) count (openedBy-done ns count before ok);
+        records = refl;
+        lines = refl;
+      })
+      script
+
+  -- A result to be read: what the code's steps reply along a script, and the records at its end, are those of the world's steps from the world
+  -- after a first Start, whatever a player held before
+  pub script-runs : Runs first sts rs t
+  script-runs =
+      let end = followed .shows in
+      let held : Staged t = record {
+        few = shown-few (entriesOf ns) t last (end .world) (end .roomy) (end .records) (end .lines);
+        records = end .records;
+        lines = end .lines;
+      } in
+      record {
+        replied = followed .replied;
+        records = λ w.
+            ap (λ p. p .record′) (sym (worldOf-side (entriesOf ns) t held w) ∙ ap (sideAt w) (end .world) ∙ forgotten-at w last);
+      }
+
+  -- A result to be read: whatever the script, each window's record is what Take makes of a new record lent the first k of its own entries, for
+  -- some k
+  pub script-delivers : (w : ℕ) → w < count → LeadingRecord (entriesOf ns) w t
+  unfolding worldOf forgotten
+  script-delivers w below =
+      let journal : entriesOf ns ≡ last .journal = ap (λ x. x .journal) (followed .shows .world) in
+      let leading = demand-3 before (entriesOf ns) count 2 (stepsIn first sts) (openedBy-done ns count before ok) .leading w below in
+      record {
+        k = leading .k;
+        folded =
+            script-runs .records w ∙ leading .folded ∙ ap (λ j. takeAll (take (leading .k) (own j w)) newRecord) (sym journal);
+      }

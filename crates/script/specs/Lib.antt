@@ -9,8 +9,8 @@ pub mod Calls
 pub mod Settled
 pub mod Takes
 pub mod Sends
+pub mod Early
 pub mod Played
-pub mod Refused
 pub mod Opening
 pub mod Room
 pub mod Shown

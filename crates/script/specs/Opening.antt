@@ -1,51 +1,53 @@
--- The beginning of a run: what opening a stage promises, and its laws.
+-- The beginning of a run: what opening a stage gives, and its laws.
 use Prim.Native.Nat.{ℕ, zero, suc, _≤_, _<_}
 use mathlib.Core.Path.{_≡_, refl, sym, ap, _∙_}
 use mathlib.Core.List.{List, [], _∷_, map}
-use mathlib.Core.Bool.{Bool, true, false, not, cond, _&&_, true≢false}
+use mathlib.Core.Bool.{Bool, true, false, not, cond, _&&_}
 use native.Mathlib.Omega.{arith}
 use borrow.Author.Tests.{eqb-true, eqb-false, lt-leb}
 use lib.ListN.{length, take, replicate, length-replicate, length-map}
 use lib.Dec.{eqb, leb}
-use Rattle.journal.specs.declared.Entry.{Entry}
 use Rattle.lists.specs.Cases.{and-left}
+use Rattle.lists.specs.Cells.{front}
+use Rattle.journal.specs.declared.Entry.{Entry}
 use Rattle.journal.specs.Entry.{inShape, entriesOf}
+use Rattle.journal.specs.EntryLaws.{numbersOf-entriesOf}
 use Rattle.record.specs.Record.{newRecord}
-use Rattle.player.specs.declared.Player.{Player}
-use Rattle.player.specs.declared.Played.{Played}
 use Rattle.rules.specs.View.{WindowView, PlayerView}
-use Rattle.player.specs.View.{playerOf}
 use Rattle.rules.specs.Shape.{countFits, limitFits}
 use Rattle.rules.specs.Window.{started}
 use Rattle.rules.specs.Rules.{refuse, areReports, least, startRule}
 use Rattle.rules.specs.Offers.{startNext, startRule-done}
 use Rattle.window.specs.Promise.{numberOf}
-use Rattle.player.specs.Promise.{Starts}
-use Rattle.delivery.specs.World.{World, newSide, opened}
+use Rattle.player.specs.declared.Player.{Player}
+use Rattle.player.specs.declared.Played.{Played}
+use Rattle.player.specs.View.{playerOf, firstWindows}
+use Rattle.player.specs.Promise.{freshWindows, freshPlayer, Starts}
+use Rattle.operations.specs.Starting.{freshWindows-shown}
+use Rattle.delivery.specs.World.{Side, newSide, opened}
 use Rattle.delivery.specs.Statement.{firstStart}
 use Rattle.script.specs.declared.Stage.{Stage}
 use Rattle.script.specs.declared.Opened.{Opened}
-use Rattle.lists.specs.Cells.{front}
 use Rattle.script.specs.Line.{freshLine, sentIn, acksIn}
 use Rattle.script.specs.Stage.{sidesOf, worldOf}
-use Rattle.journal.specs.EntryLaws.{numbersOf-entriesOf}
 
--- a player, and a world, with no windows
+-- new records and empty lines round a player
+abbrev pub aroundPlayer : Player → Stage
+aroundPlayer p = record { player = p; records = replicate 16 newRecord; lines = replicate 16 freshLine }
+
+-- no windows: a Start reads nothing of the player before it
 abbrev pub noPlayer : PlayerView
 noPlayer = record { limit = 0; current = 0; windows = [] }
 
-abbrev pub noWorld : List Entry → World
-noWorld j = record { journal = j; limit = 0; current = 0; sides = [] }
+-- the answer to a first Start, with the batch limit 2 and a report of 0 from each window
+unfoldable pub openingAnswer : List ℕ → ℕ → ℕ
+openingAnswer ns count = startRule ns count 2 (replicate count 0) noPlayer .answer
 
--- The stage is opened where the first Start is answered 0, and is then the world after it, whatever a player held before; where it is not
--- opened it has no windows; it has sixteen records and lines in any case
-pub record Opens (ns : List ℕ) (count : ℕ) (r : Opened) : Type 0 where
-  pub ok : (before : PlayerView) → r .ok ≡ eqb (startRule ns count 2 (replicate count 0) before .answer) 0
-  pub world : (before : PlayerView) → r .ok ≡ true →
-      worldOf (entriesOf ns) (r .stage) ≡ opened (entriesOf ns) (firstStart before (entriesOf ns) count 2)
-  pub shut : r .ok ≡ false → worldOf (entriesOf ns) (r .stage) ≡ noWorld (entriesOf ns)
-  pub records : length (r .stage .records) ≡ 16
-  pub lines : length (r .stage .lines) ≡ 16
+-- What opening gives: where that Start is answered 0, a stage with the fresh player that it makes; where it is refused, one with no windows
+abbrev pub openedBy : List ℕ → ℕ → Opened
+openedBy ns count =
+    let ok : Bool = eqb (openingAnswer ns count) 0 in
+    record { ok = ok; stage = aroundPlayer (cond ok (freshPlayer count 2 (replicate count 0)) (freshPlayer 0 0 [])) }
 
 -- ------------------------------------------------------------------------
 -- sidesOf
@@ -85,7 +87,18 @@ startRule-over ns count limit reports p h = go (leb 1 count)
     go false = refl
 
 -- ------------------------------------------------------------------------
--- Opens
+-- freshPlayer
+
+-- what a fresh player shows
+freshPlayer-shown : (count limit : ℕ) (reports : List ℕ) → length reports ≡ count →
+    playerOf (freshPlayer count limit reports) ≡ startNext limit reports
+unfolding playerOf
+freshPlayer-shown count limit reports e =
+    ap (λ vs. record { limit = limit; current = least reports; windows = vs })
+    (ap (λ n. firstWindows n (freshWindows reports)) (sym e) ∙ freshWindows-shown reports)
+
+-- ------------------------------------------------------------------------
+-- openedBy
 
 replicate-take : (n m x : ℕ) → n ≤ m → take n (replicate m x) ≡ replicate n x
 replicate-take zero m x h = refl
@@ -96,51 +109,65 @@ replicate-take (suc n) (suc m) x h = ap (λ l. x ∷ l) (replicate-take n m x (o
 pub reports-count : (n : ℕ) → n ≤ 16 → n ≡ length (take {A = ℕ} n (replicate 16 0))
 reports-count n h = sym (ap length (replicate-take n 16 0 h) ∙ length-replicate n 0)
 
--- new records and empty lines round a player
-abbrev pub aroundPlayer : Player → Stage
-aroundPlayer p = record { player = p; records = replicate 16 newRecord; lines = replicate 16 freshLine }
-
-shut-world : (j : List Entry) (p : Player) → playerOf p ≡ noPlayer → worldOf j (aroundPlayer p) ≡ noWorld j
-unfolding worldOf sidesOf
-shut-world j p e =
-    ap (λ q. record { journal = j; limit = q .limit; current = q .current; sides = sidesOf (q .windows) (replicate 16 newRecord) (replicate 16 freshLine) })
-    e
-
 module _ (ns : List ℕ) (count : ℕ) where
-  pub opens-over : (p : Player) → playerOf p ≡ noPlayer → 16 < count → Opens ns count (record { ok = false; stage = aroundPlayer p })
-  opens-over p b h = record {
-    ok = λ before. sym (ap (λ o. eqb (o .answer) 0) (startRule-over ns count 2 (replicate count 0) before h));
-    world = λ before e. absurd (true≢false (sym e));
-    shut = λ e. shut-world (entriesOf ns) p b;
-    records = refl;
-    lines = refl;
-  }
+  -- more windows than 16
+  answer-over : 16 < count → openingAnswer ns count ≡ 1
+  unfolding openingAnswer
+  answer-over h = ap (λ o. o .answer) (startRule-over ns count 2 (replicate count 0) noPlayer h)
 
-  pub opens-start : (p : Player) → playerOf p ≡ noPlayer → (r : Played) (reports : List ℕ) → count ≤ 16 →
-      reports ≡ take {A = ℕ} count (replicate 16 0) →
-      Starts p count 2 reports r (startRule ns count 2 reports (playerOf p)) →
-      Opens ns count (record { ok = eqb (numberOf (r .answer)) 0; stage = aroundPlayer (r .player) })
-  unfolding worldOf opened
-  opens-start p b r reports h e k =
-      let zeros : reports ≡ replicate count 0 = e ∙ replicate-take count 16 0 h in
-      let same : (before : PlayerView) → numberOf (r .answer) ≡ startRule ns count 2 (replicate count 0) before .answer
-      = λ before. k .answer ∙ ap (λ x. startRule ns count 2 x (playerOf p) .answer) zeros ∙ startRule-answer ns count 2 (replicate count 0) (playerOf p) before in
-      record {
-        ok = λ before. ap (λ n. eqb n 0) (same before);
-        world = λ before z.
-            let zero : numberOf (r .answer) ≡ 0 = eqb-true _ _ z in
-            let d = startRule-done ns count 2 reports (playerOf p) (sym (k .answer) ∙ zero) in
-            let f = startRule-done ns count 2 (replicate count 0) before (sym (same before) ∙ zero) in
-            let ns′ = numbersOf-entriesOf ns (eqb-true _ _ (and-left _ _ (d .given .journal))) in
-            ap (λ q. record { journal = entriesOf ns; limit = q .limit; current = q .current; sides = sidesOf (q .windows) (replicate 16 newRecord) (replicate 16 freshLine) })
-            (k .next ∙ d .next ∙ ap (startNext 2) zeros)
-            ∙ ap (λ ps. record { journal = entriesOf ns; limit = 2; current = least (replicate count 0); sides = ps })
-            (sidesOf-new 16 (map started (replicate count 0)) (simp (length-map, length-replicate) h))
-            ∙ ap (λ q. record { journal = entriesOf ns; limit = q .limit; current = q .current; sides = map newSide (q .windows) })
-            (sym (ap (λ x. startRule x count 2 (replicate count 0) before .next) ns′ ∙ f .next));
-        shut = λ z.
-            ap (λ q. worldOf (entriesOf ns) (aroundPlayer q)) (k .unchanged (λ n. eqb-false _ _ z (k .answer ∙ n)))
-            ∙ shut-world (entriesOf ns) p b;
-        records = refl;
-        lines = refl;
-      }
+  pub openedBy-over : (p : Player) → p ≡ freshPlayer 0 0 [] → 16 < count → record { ok = false; stage = aroundPlayer p } ≡ openedBy ns count
+  openedBy-over p b h = rw (answer-over h, b)
+
+  -- by what Start gives
+  pub openedBy-start : (p : Player) → p ≡ freshPlayer 0 0 [] → (r : Played) (reports : List ℕ) → count ≤ 16 →
+      reports ≡ take {A = ℕ} count (replicate 16 0) → Starts p count 2 reports r (startRule ns count 2 reports (playerOf p)) →
+      record { ok = eqb (numberOf (r .answer)) 0; stage = aroundPlayer (r .player) } ≡ openedBy ns count
+  unfolding openingAnswer
+  openedBy-start p b r reports h e k =
+      rw (sym answer) (ap (λ q. record { ok = eqb (numberOf (r .answer)) 0; stage = aroundPlayer q }) (by (eqb (numberOf (r .answer)) 0) refl))
+    where
+      zeros : reports ≡ replicate count 0
+      zeros = e ∙ replicate-take count 16 0 h
+
+      answer : numberOf (r .answer) ≡ openingAnswer ns count
+      answer = k .answer ∙ startRule-answer ns count 2 reports (playerOf p) noPlayer
+          ∙ ap (λ x. startRule ns count 2 x noPlayer .answer) zeros
+
+      by : (ok : Bool) → eqb (numberOf (r .answer)) 0 ≡ ok →
+          r .player ≡ cond ok (freshPlayer count 2 (replicate count 0)) (freshPlayer 0 0 [])
+      by true z = k .fresh (sym (k .answer) ∙ eqb-true _ _ z) ∙ ap (freshPlayer count 2) zeros
+      by false z = k .unchanged (λ n. eqb-false _ _ z (k .answer ∙ n)) ∙ b
+
+  -- ------------------------------------------------------------------------
+  -- an opened stage
+
+  module _ (before : PlayerView) (ok : openedBy ns count .ok ≡ true) where
+    first-answer : startRule ns count 2 (replicate count 0) before .answer ≡ 0
+    unfolding openingAnswer
+    first-answer = startRule-answer ns count 2 (replicate count 0) before noPlayer ∙ eqb-true _ _ ok
+
+    pub openedBy-journal : inShape ns ≡ true
+    openedBy-journal = startRule-done ns count 2 (replicate count 0) before first-answer .given .journal
+
+    numbers : firstStart before (entriesOf ns) count 2 ≡ startRule ns count 2 (replicate count 0) before
+    numbers = ap (λ x. startRule x count 2 (replicate count 0) before) (numbersOf-entriesOf ns (eqb-true _ _ (and-left _ _ openedBy-journal)))
+
+    -- it is a first Start of demand 3, answered 0
+    pub openedBy-done : firstStart before (entriesOf ns) count 2 .answer ≡ 0
+    openedBy-done = ap (λ o. o .answer) numbers ∙ first-answer
+
+    -- A result to be read: the stage shows the world after that Start, whatever a player held before
+    pub openedBy-world : worldOf (entriesOf ns) (openedBy ns count .stage) ≡ opened (entriesOf ns) (firstStart before (entriesOf ns) count 2)
+    unfolding worldOf opened
+    openedBy-world =
+        let j : List Entry = entriesOf ns in
+        let zeros : List ℕ = replicate count 0 in
+        let d = startRule-done ns count 2 zeros before first-answer in
+        let around : PlayerView → List Side = λ q. sidesOf (q .windows) (replicate 16 newRecord) (replicate 16 freshLine) in
+        rw ok
+        (ap (λ q. record { journal = j; limit = q .limit; current = q .current; sides = around q })
+        (freshPlayer-shown count 2 zeros (length-replicate count 0))
+        ∙ ap (λ ps. record { journal = j; limit = 2; current = least zeros; sides = ps })
+        (sidesOf-new 16 (map started zeros) (simp (length-map, length-replicate) (d .given .most)))
+        ∙ ap (λ q. record { journal = j; limit = q .limit; current = q .current; sides = map newSide (q .windows) })
+        (sym (ap (λ o. o .next) numbers ∙ d .next)))

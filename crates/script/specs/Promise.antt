@@ -3,7 +3,7 @@ use Prim.Native.Nat.{ℕ, _≤_}
 use mathlib.Core.Path.{_≡_}
 use mathlib.Core.List.{List}
 use mathlib.Core.Bool.{Bool, true, false, not, _&&_, _||_}
-use lib.ListN.{length}
+use lib.ListN.{length, drop}
 use lib.Dec.{eqb}
 use Rattle.journal.specs.declared.Entry.{Entry}
 use Rattle.journal.specs.Entry.{inShape, entriesOf}
@@ -39,11 +39,18 @@ abbrev pub isRefusal : Reply → Bool
 isRefusal (Answered n) = not (eqb n 0 || eqb n 15)
 isRefusal Empty = true
 
+-- the windows, the records and the lines from a number up are as they were
+pub record SameAbove (n : ℕ) (before after : Stage) : Type 0 where
+  pub windows : drop n (after .player .windows) ≡ drop n (before .player .windows)
+  pub records : drop n (after .records) ≡ drop n (before .records)
+  pub lines : drop n (after .lines) ≡ drop n (before .lines)
+
 -- where the journal is in shape and the stage fits, the step is the world's; where not, the answer is 1 and nothing changes; a refusal
--- gives back the stage handed in, whole; and sixteen records and lines stay sixteen
+-- gives back the stage handed in, whole; what there is from W up is as it was in any case; and sixteen records and lines stay sixteen
 pub record Plays (ns : List ℕ) (before : Stage) (s : Step) (r : Stepped) : Type 0 where
   pub played : playable ns before s ≡ true → Steps (entriesOf ns) before s r
   pub stuck : playable ns before s ≡ false → r ≡ record { reply = Answered 1; stage = before }
   pub refused : isRefusal (r .reply) ≡ true → r .stage ≡ before
+  pub above : SameAbove (before .player .count) before (r .stage)
   pub records : length (r .stage .records) ≡ 16
   pub lines : length (r .stage .lines) ≡ 16

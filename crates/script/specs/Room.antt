@@ -28,7 +28,7 @@ use Rattle.delivery.specs.Demand3.{opened-reached}
 use Rattle.script_line.specs.declared.Step.{Step}
 use Rattle.script_line.specs.declared.Step.the-variants.{Main, At}
 use Rattle.script_line.specs.declared.Verb.the-variants.{Catch, Send, Written, Ack as AckVerb, Drop, Join, Take}
-use Rattle.script.specs.Stage.{stepIn}
+use Rattle.script.specs.Stage.{stepIn, stepsIn}
 use Rattle.script.specs.Sends.{batchOf-length}
 
 -- ------------------------------------------------------------------------
@@ -233,15 +233,10 @@ roomy-step wd s r = record {
   each = roomy-facts wd (stepIn wd s) (stepIn-scripted wd s) r (step-facts wd (r .reached .inShape) (stepIn wd s));
 }
 
--- the world after a script
-unfoldable pub played : World → List Step → World
-played wd [] = wd
-played wd (s ∷ ss) = played (W.step (stepIn wd s) wd .world) ss
-
-pub roomy-played : (wd : World) (ss : List Step) → Roomy wd → Roomy (played wd ss)
-unfolding played
-roomy-played wd [] r = r
-roomy-played wd (s ∷ ss) r = roomy-played (W.step (stepIn wd s) wd .world) ss (roomy-step wd s r)
+pub roomy-run : (wd : World) (ss : List Step) → Roomy wd → Roomy (W.run wd (stepsIn wd ss))
+unfolding stepsIn W.run
+roomy-run wd [] r = r
+roomy-run wd (s ∷ ss) r = roomy-run (W.step (stepIn wd s) wd .world) ss (roomy-step wd s r)
 
 roomy-new : (v : WindowView) → RoomySide (newSide v)
 unfolding endsOf
@@ -261,5 +256,6 @@ roomy-opened before j count done = record {
 
 -- in every world that a script reaches from there, each line has room
 pub room : (before : PlayerView) (j : List Entry) (count : ℕ) → firstStart before j count 2 .answer ≡ 0 → (ss : List Step) →
-    Roomy (played (opened j (firstStart before j count 2)) ss)
-room before j count done ss = roomy-played (opened j (firstStart before j count 2)) ss (roomy-opened before j count done)
+    let first : World = opened j (firstStart before j count 2) in
+    Roomy (W.run first (stepsIn first ss))
+room before j count done ss = roomy-run (opened j (firstStart before j count 2)) ss (roomy-opened before j count done)

@@ -29,12 +29,12 @@ use Rattle.script_line.specs.declared.Verb.the-variants.{Send}
 use Rattle.script.specs.declared.settle.Settled.{Settled}
 use Rattle.script.specs.declared.Stage.{Stage}
 use Rattle.script.specs.Line.{sentOf, ackOf, sentIn, acksIn, batchShown, Grown}
-use Rattle.script.specs.Stage.{worldOf, lineAt}
+use Rattle.script.specs.Stage.{worldOf, stepIn, lineAt}
 use Rattle.script.specs.Promise.{Steps}
-use Rattle.script.specs.Stored.{sideIn, Relined, storedBy}
+use Rattle.script.specs.Stored.{slotIn, outcomeAt, outputAt, Relined, storedBy}
 use Rattle.script.specs.Worlds.{playerOf-count, changed, Staged, worldOf-player, worldOf-side}
 use Rattle.script.specs.Calls.{rule-here}
-use Rattle.script.specs.Settled.{line-here, back-here, lines-side, settled-steps}
+use Rattle.script.specs.Settled.{line-here, back-here, lines-side, turned-steps}
 
 -- ------------------------------------------------------------------------
 -- batchOf
@@ -110,30 +110,37 @@ module _ (ns : List ℕ) (s : Stage) (h : Staged s) (e : inShape ns ≡ true) (w
   abbrev player : PlayerView
   player = playerOf (s .player)
 
-  pub send-steps : (r : Played) (x : Settled) (out : List ℕ) → Meets (s .player) r (sendRule ns w 10 player) →
-      out ≡ sendOutput ns w (replicate 10 0) player →
-      Relined (sideIn w s) (numberOf (r .answer)) (Grown (lineAt w s) (batchShown out (windowAt w player .term))) x →
-      Steps j s (At Send w) (storedBy s w (r .player) x)
+  -- what the world puts on the line
+  abbrev batch : List W.Sent
+  batch = onLine j (sideAt w wd .view .term) (batchAt w (playerIn wd))
+
+  abbrev pub launched : Side → Side
+  launched p = withLines (p .line ++ batch) (p .back) p
+
+  pub send-calls : W.step (stepIn wd (At Send w)) wd
+      ≡ calledThen (outcomeAt ns (s .player) (slotIn w s) (At Send w)) (changed w launched) wd
   unfolding W.step worldOf
-  send-steps r x out k written own =
+  send-calls = ap (λ o. calledThen o (changed w launched) wd) (rule-here ns s h e (λ n p. sendRule n w 10 p))
+
+  pub send-steps : (r : Played) (x : Settled) (out : List ℕ) → Meets (s .player) r (outcomeAt ns (s .player) (slotIn w s) (At Send w)) →
+      numberOf (r .answer) ≡ 0 → out ≡ outputAt ns (s .player) (At Send w) →
+      Relined (slotIn w s) (Grown (lineAt w s) (batchShown out (windowAt w player .term))) x →
+      Steps j s (At Send w) (storedBy s w (r .player) x)
+  send-steps r x out k done written own =
       let t : Term = windowAt w player .term in
-      let batch : List W.Sent = onLine j (sideAt w wd .view .term) (batchAt w (playerIn wd)) in
-      let g : Side → Side = λ p. withLines (p .line ++ batch) (p .back) p in
-      settled-steps j s h (At Send w) w r (sendRule ns w 10 player) x g
-      (ap (λ o. calledThen o (changed w g) wd) (rule-here ns s h e (λ n p. sendRule n w 10 p)))
-      k own
-      (λ z grown.
+      let z : sendRule ns w 10 player .answer ≡ 0 = sym (k .answer) ∙ done in
       let d = sendRule-done ns w 10 player z in
       let shown : map sentOf (batchShown out t) ≡ batch
       = ap (λ out. map sentOf (batchShown out t)) written
       ∙ sendOutput-onLine ns w player t z
       ∙ ap₂ (onLine j) (sym (ap (λ p. p .view .term) (worldOf-side j s h w))) (sym (ap (batchAt w) (worldOf-player j s h))) in
-      record {
+      turned-steps j s h (At Send w) w r _ x launched send-calls k done (own .is)
+      (record {
         within = omega (arith, d .within, playerOf-count (s .player));
         view = _;
         next = d .next;
         side = lines-side j s h w _ (x .line) (sideAt w wd .line ++ batch) (sideAt w wd .back)
-            (ap (map sentOf) (grown .entries) ∙ map-append sentOf (sentIn (lineAt w s .entries)) (batchShown out t)
+            (ap (map sentOf) (own .line .entries) ∙ map-append sentOf (sentIn (lineAt w s .entries)) (batchShown out t)
             ∙ ap₂ _++_ (sym (line-here j s h w)) shown)
-            (ap (λ a. map ackOf (acksIn a)) (grown .acks) ∙ sym (back-here j s h w));
+            (ap (λ a. map ackOf (acksIn a)) (own .line .acks) ∙ sym (back-here j s h w));
       })

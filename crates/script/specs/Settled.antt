@@ -1,16 +1,15 @@
--- The steps that call the player and also change a line, by one law: Join and Ack. And a Take or an Ack at an empty line.
+-- The steps that call the player and also change a line: by one law, Join and Ack. And a Take or an Ack at an empty line.
 use Prim.Native.Nat.{ℕ, _<_}
 use mathlib.Core.Path.{_≡_, refl, sym, ap, ap₂, _∙_}
-use mathlib.Core.Logic.{⊎-elim}
 use mathlib.Core.List.{List, [], _∷_, map}
 use mathlib.Core.Bool.{Bool, true, false, cond}
 use native.Mathlib.Omega.{arith}
 use borrow.Author.Tests.{lt-ltb, ltb-true}
-use lib.ListN.{length, drop}
+use lib.ListN.{length, getD, drop}
 use lib.Dec.{ltb}
+use Rattle.lists.specs.Cells.{front}
 use Rattle.journal.specs.declared.Entry.{Entry}
 use Rattle.journal.specs.Entry.{inShape, entriesOf}
-use Rattle.lists.specs.Cases.{eq-or-ne}
 use Rattle.rules.specs.View.{WindowView, PlayerView}
 use Rattle.rules.specs.Rules.{Outcome, withWindow, ackRule, joinRule}
 use Rattle.rules.specs.Offers.{ackRule-done, joinRule-done}
@@ -18,10 +17,10 @@ use Rattle.player.specs.declared.Played.{Played}
 use Rattle.player.specs.View.{playerOf}
 use Rattle.player.specs.Promise.{Meets}
 use Rattle.window.specs.Promise.{numberOf}
-use Rattle.delivery.specs.World.{Side, World, sideAt, numbersIn, playerIn, withView, withLines, answered, calledThen, takeAtLine, ackAtLine, cleared}
+use Rattle.delivery.specs.World.{Side, World, sideAt, numbersIn, playerIn, withView, withLines, answered, calledThen}
+use Rattle.delivery.specs.World.{takeAtLine, ackAtLine, cleared}
 use Rattle.delivery.specs.World as W
-use Rattle.delivery.specs.Worlds.{withPlayer-same}
-use Rattle.delivery.specs.Stepped.{calledThen-refused, calledThen-done}
+use Rattle.delivery.specs.Stepped.{calledThen-done}
 use Rattle.script_line.specs.declared.Step.{Step}
 use Rattle.script_line.specs.declared.Step.the-variants.{At}
 use Rattle.script_line.specs.declared.Verb.the-variants.{Ack, Join, Take}
@@ -30,12 +29,11 @@ use Rattle.script.specs.declared.line.Line.{Line}
 use Rattle.script.specs.declared.settle.Settled.{Settled}
 use Rattle.script.specs.declared.Stage.{Stage}
 use Rattle.script.specs.declared.Reply.the-variants.{Answered, Empty}
-use Rattle.lists.specs.Cells.{front}
-use Rattle.script.specs.Line.{sentOf, ackOf, sentIn, acksIn, freshLine, AckedOff, sentIn-none, acksIn-none}
+use Rattle.script.specs.Line.{noAck, sentOf, ackOf, sentIn, acksIn, freshLine, AckedOff, sentIn-none, acksIn-none, acksIn-first}
 use Rattle.script.specs.Stage.{sideOf, worldOf, forget, forgotten, stepIn, recordAt, lineAt}
 use Rattle.script.specs.Promise.{Steps}
-use Rattle.script.specs.Stored.{sideIn, Relined, storedAt, storedBy, emptyAt}
-use Rattle.script.specs.Worlds.{playerOf-count, changed, worldOf-forgotten, worldOf-count, Staged, worldOf-player, worldOf-side, storedAt-same, worldOf-turned}
+use Rattle.script.specs.Stored.{slotIn, outcomeAt, settledAs, Relined, storedBy}
+use Rattle.script.specs.Worlds.{playerOf-count, changed, worldOf-forgotten, worldOf-count, Staged, worldOf-side, worldOf-turned}
 use Rattle.script.specs.Calls.{steps-as, rule-here}
 
 -- a line that is not empty is a window's
@@ -82,26 +80,25 @@ module _ (j : List Entry) (s : Stage) (h : Staged s) where
 
   nothing-steps : (st : Step) (w : ℕ) →
       W.step (stepIn wd st) wd ≡ cond (ltb w (length (wd .sides))) (W.stays W.empty wd) (W.stays (answered 2) wd) →
-      Steps j s st (emptyAt s w)
+      Steps j s st (record { reply = cond (ltb w (s .player .count)) Empty (Answered 2); stage = s })
   nothing-steps st w is =
       by (ltb w (s .player .count)) (is ∙ ap (λ n. cond (ltb w n) (W.stays W.empty wd) (W.stays (answered 2) wd)) (worldOf-count j s))
     where
-      same : worldOf j (emptyAt s w .stage) ≡ forgotten wd
-      same = ap (worldOf j) (storedAt-same s w (s .player)) ∙ sym (worldOf-forgotten j s)
-
       by : (b : Bool) → W.step (stepIn wd st) wd ≡ cond b (W.stays W.empty wd) (W.stays (answered 2) wd) →
-          Steps j s st (record { reply = cond b Empty (Answered 2); stage = emptyAt s w .stage })
-      by true e = steps-as j s st (W.stays W.empty wd) _ e refl same
-      by false e = steps-as j s st (W.stays (answered 2) wd) _ e refl same
+          Steps j s st (record { reply = cond b Empty (Answered 2); stage = s })
+      by true e = steps-as j s st (W.stays W.empty wd) _ e refl (sym (worldOf-forgotten j s))
+      by false e = steps-as j s st (W.stays (answered 2) wd) _ e refl (sym (worldOf-forgotten j s))
 
-  pub take-nothing : (w : ℕ) → lineAt w s .entries .len ≡ 0 → Steps j s (At Take w) (emptyAt s w)
+  pub take-nothing : (w : ℕ) → lineAt w s .entries .len ≡ 0 →
+      Steps j s (At Take w) (record { reply = cond (ltb w (s .player .count)) Empty (Answered 2); stage = s })
   unfolding W.step
   take-nothing w none =
       nothing-steps (At Take w) w
       (ap (λ l. cond (ltb w (length (wd .sides))) (takeAtLine w l wd) (W.stays (answered 2) wd))
       (line-here w ∙ ap (map sentOf) (sentIn-none (lineAt w s .entries) none)))
 
-  pub ack-nothing : (w : ℕ) → lineAt w s .acks .len ≡ 0 → Steps j s (At Ack w) (emptyAt s w)
+  pub ack-nothing : (w : ℕ) → lineAt w s .acks .len ≡ 0 →
+      Steps j s (At Ack w) (record { reply = cond (ltb w (s .player .count)) Empty (Answered 2); stage = s })
   unfolding W.step
   ack-nothing w none =
       nothing-steps (At Ack w) w
@@ -109,81 +106,83 @@ module _ (j : List Entry) (s : Stage) (h : Staged s) where
       (back-here w ∙ ap (map ackOf) (acksIn-none (lineAt w s .acks) none)))
 
   -- ------------------------------------------------------------------------
-  -- Relined
+  -- a call answered 0 that changes a line
 
-  -- refused, nothing changes; answered 0, the stage shows what the world's change gives
-  pub settled-steps : (st : Step) (w : ℕ) (r : Played) (o : Outcome) (x : Settled) (g : Side → Side) {after : Line → Type 0} →
-      W.step (stepIn wd st) wd ≡ calledThen o (changed w g) wd → Meets (s .player) r o →
-      Relined (sideIn w s) (numberOf (r .answer)) after x → (o .answer ≡ 0 → after (x .line) → Turned j s w o g (x .line)) →
-      Steps j s st (storedBy s w (r .player) x)
-  settled-steps st w r o x g is k own turned =
-      rw (own .is) (steps-as j s st _ _ is (ap answered (k .answer)) (⊎-elim yes no (eq-or-ne (o .answer) 0)))
-    where
-      after : Stage
-      after = storedAt w (r .player) (recordAt w s) (x .line) s
-
-      yes : o .answer ≡ 0 → worldOf j after ≡ forgotten (calledThen o (changed w g) wd .world)
-      yes z =
-          let d = turned z (own .done (k .answer ∙ z)) in
-          worldOf-turned j s h w (r .player) (o .next) (d .view) (x .line) g (d .within) (k .next) (d .next) (d .side)
-          ∙ sym (ap forgotten (calledThen-done o (changed w g) wd z))
-
-      no : (o .answer ≡ 0 → ⊥) → worldOf j after ≡ forgotten (calledThen o (changed w g) wd .world)
-      no n =
-          let same : o .next ≡ playerIn wd = sym (k .next) ∙ ap playerOf (k .unchanged n) ∙ sym (worldOf-player j s h) in
-          ap (λ l. worldOf j (storedAt w (r .player) (recordAt w s) l s)) (own .refused (λ z. n (sym (k .answer) ∙ z)))
-          ∙ ap (worldOf j) (storedAt-same s w (r .player))
-          ∙ ap (λ p. worldOf j (record { player = p; records = s .records; lines = s .lines })) (k .unchanged n)
-          ∙ sym (worldOf-forgotten j s)
-          ∙ sym (ap forgotten (calledThen-refused o (changed w g) wd n ∙ withPlayer-same wd (o .next) same))
+  -- the stage shows what the world's change gives
+  pub turned-steps : (st : Step) (w : ℕ) (r : Played) (o : Outcome) (x : Settled) (g : Side → Side) →
+      W.step (stepIn wd st) wd ≡ calledThen o (changed w g) wd → Meets (s .player) r o → numberOf (r .answer) ≡ 0 →
+      x ≡ settledAs (slotIn w s) (x .line) → Turned j s w o g (x .line) → Steps j s st (storedBy s w (r .player) x)
+  turned-steps st w r o x g is k zero own d =
+      rw own
+      (steps-as j s st _ _ is (ap answered (sym zero ∙ k .answer))
+      (worldOf-turned j s h w (r .player) (o .next) (d .view) (x .line) g (d .within) (k .next) (d .next) (d .side)
+      ∙ sym (ap forgotten (calledThen-done o (changed w g) wd (sym (k .answer) ∙ zero)))))
 
 -- ------------------------------------------------------------------------
 -- Join, Ack
 
-module _ (ns : List ℕ) (s : Stage) (h : Staged s) (e : inShape ns ≡ true) (w : ℕ) (r : Played) (x : Settled) where
+module _ (ns : List ℕ) (s : Stage) (h : Staged s) (e : inShape ns ≡ true) (w : ℕ) where
   abbrev here : World
   here = worldOf (entriesOf ns) s
 
   abbrev player : PlayerView
   player = playerOf (s .player)
 
-  pub join-steps : Meets (s .player) r (joinRule ns w (recordAt w s .last .0) player) →
-      Relined (sideIn w s) (numberOf (r .answer)) (λ l. l ≡ freshLine) x → Steps (entriesOf ns) s (At Join w) (storedBy s w (r .player) x)
-  unfolding W.step sentIn acksIn front
-  join-steps k own =
-      let last : ℕ = recordAt w s .last .0 in
-      settled-steps (entriesOf ns) s h (At Join w) w r (joinRule ns w last player) x cleared
-      (ap (λ own. calledThen (joinRule (numbersIn here) w (own .last .0) (playerIn here)) (changed w cleared) here)
+  pub join-calls : W.step (stepIn here (At Join w)) here
+      ≡ calledThen (outcomeAt ns (s .player) (slotIn w s) (At Join w)) (changed w cleared) here
+  unfolding W.step
+  join-calls =
+      ap (λ own. calledThen (joinRule (numbersIn here) w (own .last .0) (playerIn here)) (changed w cleared) here)
       (record-here (entriesOf ns) s h w)
-      ∙ ap (λ o. calledThen o (changed w cleared) here) (rule-here ns s h e (λ n p. joinRule n w last p)))
-      k own
-      (λ z fresh.
-      let d = joinRule-done ns w last player z in
-      record {
+      ∙ ap (λ o. calledThen o (changed w cleared) here) (rule-here ns s h e (λ n p. joinRule n w (recordAt w s .last .0) p))
+
+  pub join-steps : (r : Played) (x : Settled) → Meets (s .player) r (outcomeAt ns (s .player) (slotIn w s) (At Join w)) →
+      numberOf (r .answer) ≡ 0 → x ≡ settledAs (slotIn w s) freshLine → Steps (entriesOf ns) s (At Join w) (storedBy s w (r .player) x)
+  unfolding sentIn acksIn front
+  join-steps r x k zero own =
+      let d = joinRule-done ns w (recordAt w s .last .0) player (sym (k .answer) ∙ zero) in
+      rw own
+      (turned-steps (entriesOf ns) s h (At Join w) w r _ (settledAs (slotIn w s) freshLine) cleared join-calls k zero refl
+      (record {
         within = omega (arith, d .within, playerOf-count (s .player));
         view = _;
         next = d .next;
-        side = rw fresh (lines-side (entriesOf ns) s h w _ freshLine [] [] refl refl);
-      })
+        side = lines-side (entriesOf ns) s h w _ freshLine [] [] refl refl;
+      }))
 
   -- Ack with the front ack, and the line without it
-  pub ack-steps : (front : declared.Ack) (rest : List declared.Ack) → w < s .player .count → acksIn (lineAt w s .acks) ≡ front ∷ rest →
-      Meets (s .player) r (ackRule ns w (front .term) (front .index .0) player) →
-      Relined (sideIn w s) (numberOf (r .answer)) (AckedOff (lineAt w s)) x → Steps (entriesOf ns) s (At Ack w) (storedBy s w (r .player) x)
-  unfolding W.step
-  ack-steps front rest within is k own =
-      let j : List Entry = entriesOf ns in
-      let acks : List W.Ack = map ackOf rest in
-      let g : Side → Side = λ p. withLines (p .line) acks p in
-      let there : w < length (here .sides) = omega (arith, worldOf-count j s) in
-      settled-steps j s h (At Ack w) w r (ackRule ns w (front .term) (front .index .0) player) x g
-      (simp (lt-ltb w (length (here .sides)) there) (ap (λ b. ackAtLine w b here) (back-here j s h w ∙ ap (map ackOf) is))
-      ∙ ap (λ o. calledThen o (changed w g) here) (rule-here ns s h e (λ n p. ackRule n w (front .term) (front .index .0) p)))
-      k own
-      (λ z off. record {
-        within = within;
-        view = _;
-        next = ackRule-done ns w (front .term) (front .index .0) player z .next;
-        side = lines-side j s h w _ (x .line) (sideAt w here .line) acks
-            (ap (λ e. map sentOf (sentIn e)) (off .entries) ∙ sym (line-here j s h w)) (ap (map ackOf) (off .acks ∙ ap (drop 1) is));
-      })
+  module _ (some : 0 < lineAt w s .acks .len) where
+    abbrev rest : List W.Ack
+    rest = map ackOf (drop 1 (acksIn (lineAt w s .acks)))
+
+    abbrev pub acked : Side → Side
+    acked p = withLines (p .line) rest p
+
+    within : w < s .player .count
+    within = lineAt-within s w (λ l. l .acks .len) refl some
+
+    first : acksIn (lineAt w s .acks) ≡ getD (lineAt w s .acks .cells) 0 noAck ∷ drop 1 (acksIn (lineAt w s .acks))
+    first = acksIn-first (lineAt w s .acks) _ some refl
+
+    pub ack-calls : W.step (stepIn here (At Ack w)) here
+        ≡ calledThen (outcomeAt ns (s .player) (slotIn w s) (At Ack w)) (changed w acked) here
+    unfolding W.step
+    ack-calls =
+        let ack : declared.Ack = slotIn w s .ack in
+        simp (lt-ltb w (length (here .sides)) (omega (arith, within, worldOf-count (entriesOf ns) s)))
+        (ap (λ b. ackAtLine w b here) (back-here (entriesOf ns) s h w ∙ ap (map ackOf) first))
+        ∙ ap (λ o. calledThen o (changed w acked) here) (rule-here ns s h e (λ n p. ackRule n w (ack .term) (ack .index .0) p))
+
+    pub ack-steps : (r : Played) (x : Settled) → Meets (s .player) r (outcomeAt ns (s .player) (slotIn w s) (At Ack w)) →
+        numberOf (r .answer) ≡ 0 → Relined (slotIn w s) (AckedOff (lineAt w s)) x →
+        Steps (entriesOf ns) s (At Ack w) (storedBy s w (r .player) x)
+    ack-steps r x k zero own =
+        let j : List Entry = entriesOf ns in
+        turned-steps j s h (At Ack w) w r _ x acked ack-calls k zero (own .is)
+        (record {
+          within = within;
+          view = _;
+          next = ackRule-done ns w _ _ player (sym (k .answer) ∙ zero) .next;
+          side = lines-side j s h w _ (x .line) (sideAt w here .line) rest
+              (ap (λ e. map sentOf (sentIn e)) (own .line .entries) ∙ sym (line-here j s h w)) (ap (map ackOf) (own .line .acks));
+        })

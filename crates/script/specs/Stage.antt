@@ -55,7 +55,8 @@ unfoldable pub forgotten : World → World
 forgotten wd = record { journal = wd .journal; limit = wd .limit; current = wd .current; sides = map forget (wd .sides) }
 
 -- ------------------------------------------------------------------------
--- A script's step as a step of the world: `main` and `catch` offer the index due, terms are current, the output lent has room for a batch of two
+-- A script's step as a step of the world: `main` and `catch` offer the index due, terms are current, the output lent has room for a batch
+-- of two
 
 -- the index due in a window that is Fetching; in any other the answer does not depend on it
 abbrev pub dueIn : Condition → ℕ
@@ -73,6 +74,11 @@ stepIn wd (At Ack w) = W.ack w
 stepIn wd (At Drop w) = W.drop w
 stepIn wd (At Join w) = W.join w
 stepIn wd (At Take w) = W.take w
+
+-- the steps of the world that a script's steps are
+unfoldable pub stepsIn : World → List Step → List W.Step
+stepsIn wd [] = []
+stepsIn wd (s ∷ ss) = stepIn wd s ∷ stepsIn (W.step (stepIn wd s) wd .world) ss
 
 -- what is printed of a reply of the world: no step of a script is one that is not made
 abbrev pub replyOf : Reply → W.Reply

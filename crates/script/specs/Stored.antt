@@ -1,29 +1,26 @@
--- What the private functions promise: what a stage has for one window, what a step asks of the player there, and what it leaves there.
+-- What the private functions promise: what a stage has for one window, what a step is answered early, asks of the player, and leaves there.
 use Prim.Native.Nat.{ℕ, _+_}
 use mathlib.Core.Path.{_≡_}
 use mathlib.Core.List.{List}
-use mathlib.Core.Bool.{true, false, cond}
+use mathlib.Core.Bool.{Bool, true, false, cond, _&&_}
 use lib.ListN.{getD, set, replicate}
-use lib.Dec.{ltb, eqb}
+use lib.Dec.{ltb, leb, eqb}
 use Rattle.journal.specs.declared.Index.{Index}
-use Rattle.journal.specs.Entry.{fiveOf}
+use Rattle.journal.specs.Entry.{inShape, fiveOf}
 use Rattle.record.specs.declared.Record.{Record}
-use Rattle.record.specs.Record.{Outcome, newRecord, takeNumbers}
+use Rattle.record.specs.Record as Taking
+use Rattle.record.specs.Record.{newRecord, takeNumbers}
 use Rattle.rules.specs.View.{WindowView}
-use Rattle.rules.specs.Rules.{windowAt, mainRule, catchRule, sendRule, writtenRule, ackRule, dropRule, joinRule, sendOutput}
-use Rattle.window.specs.declared.Answer.the-variants.{Done, NoSuchWindow}
-use Rattle.window.specs.Promise.{numberOf}
+use Rattle.rules.specs.Rules.{Outcome, windowAt, mainRule, catchRule, sendRule, writtenRule, ackRule, dropRule, joinRule, sendOutput}
 use Rattle.player.specs.declared.Player.{Player}
-use Rattle.player.specs.declared.Played.{Played}
 use Rattle.player.specs.View.{playerOf}
-use Rattle.player.specs.Promise.{Meets}
 use Rattle.script_line.specs.declared.Step.{Step}
 use Rattle.script_line.specs.declared.Step.the-variants.{Main, At}
 use Rattle.script_line.specs.declared.Verb.the-variants.{Catch, Send, Written, Ack, Drop, Join, Take}
 use Rattle.script.specs.declared.line.Line.{Line}
-use Rattle.script.specs.declared.side.Side.{Side}
-use Rattle.script.specs.declared.call.Call.{Call}
-use Rattle.script.specs.declared.call.Call.the-variants as call
+use Rattle.script.specs.declared.slot.Slot.{Slot}
+use Rattle.script.specs.declared.early.Early.{Early}
+use Rattle.script.specs.declared.early.Early.the-variants as early
 use Rattle.script.specs.declared.settle.Settled.{Settled}
 use Rattle.script.specs.declared.Stage.{Stage}
 use Rattle.script.specs.declared.Reply.the-variants.{Answered, Empty}
@@ -35,21 +32,59 @@ use Rattle.script.specs.Stage.{dueIn, recordAt, lineAt}
 -- What a stage has for one window
 
 -- for a window that is not there, and for one that is
-abbrev pub absent : Side
-absent = record { there = false; term = record { 0 = 0 }; due = record { 0 = 0 }; «record» = newRecord; line = freshLine }
+abbrev pub absent : Slot
+absent = record {
+  there = false;
+  term = record { 0 = 0 };
+  due = record { 0 = 0 };
+  «record» = newRecord;
+  line = freshLine;
+  ack = noAck;
+}
 
-abbrev pub present : WindowView → Record → Line → Side
-present v r l = record { there = true; term = v .term; due = record { 0 = dueIn (v .condition) }; «record» = r; line = l }
+abbrev pub present : WindowView → Record → Line → Slot
+present v r l = record {
+  there = true;
+  term = v .term;
+  due = record { 0 = dueIn (v .condition) };
+  «record» = r;
+  line = l;
+  ack = getD (l .acks .cells) 0 noAck;
+}
 
 -- for window w
-abbrev pub sideIn : ℕ → Stage → Side
-sideIn w s = record {
+abbrev pub slotIn : ℕ → Stage → Slot
+slotIn w s = record {
   there = ltb w (s .player .count);
   term = windowAt w (playerOf (s .player)) .term;
   due = record { 0 = dueIn (windowAt w (playerOf (s .player)) .condition) };
   «record» = recordAt w s;
   line = lineAt w s;
+  ack = getD (lineAt w s .acks .cells) 0 noAck;
 }
+
+-- ------------------------------------------------------------------------
+-- What a step is answered before the player is asked
+
+abbrev pub hasRoom : Slot → Bool
+hasRoom x = leb (x .line .entries .len) 16 && leb (x .line .acks .len) 8
+
+-- a Take or an Ack for which there is nothing on the line
+abbrev pub lacks : Slot → Step → Bool
+lacks x Main = false
+lacks x (At Catch w) = false
+lacks x (At Send w) = false
+lacks x (At Written w) = false
+lacks x (At Ack w) = eqb (x .line .acks .len) 0
+lacks x (At Drop w) = false
+lacks x (At Join w) = false
+lacks x (At Take w) = eqb (x .line .entries .len) 0
+
+abbrev pub earlyAt : List ℕ → ℕ → Slot → Step → Early
+earlyAt ns count x st =
+    cond (inShape ns && (leb count 16 && hasRoom x))
+    (cond (lacks x st) (early.Answer (cond (x .there) Empty (Answered 2))) early.None)
+    (early.Answer (Answered 1))
 
 -- ------------------------------------------------------------------------
 -- What a step asks of the player
@@ -58,97 +93,66 @@ sideIn w s = record {
 abbrev pub indexAfter : Index → Index
 indexAfter i = cond (eqb (i .0) 4294967295) i (record { 0 = i .0 + 1 })
 
--- a Take or an Ack where the line is empty
-abbrev pub nothingAt : Side → Call
-nothingAt x = call.Nothing (cond (x .there) Done NoSuchWindow)
+-- `main` and `catch` offer the index due, `ack` the front ack, terms are current, and `join` reports the last index; `take` asks nothing
+abbrev pub outcomeAt : List ℕ → Player → Slot → Step → Outcome
+outcomeAt ns p x Main = mainRule ns (indexAfter (p .current) .0) (playerOf p)
+outcomeAt ns p x (At Catch w) = catchRule ns w (x .term) (x .due .0) (playerOf p)
+outcomeAt ns p x (At Send w) = sendRule ns w 10 (playerOf p)
+outcomeAt ns p x (At Written w) = writtenRule ns w (x .term) (playerOf p)
+outcomeAt ns p x (At Ack w) = ackRule ns w (x .ack .term) (x .ack .index .0) (playerOf p)
+outcomeAt ns p x (At Drop w) = dropRule ns w (playerOf p)
+outcomeAt ns p x (At Join w) = joinRule ns w (x .record .last .0) (playerOf p)
+outcomeAt ns p x (At Take w) = record { answer = 0; next = playerOf p }
 
--- the front of the line
-abbrev pub ackAt : Side → Call
-ackAt x =
-    cond (eqb (x .line .acks .len) 0) (nothingAt x)
-    (call.Ack (getD (x .line .acks .cells) 0 noAck .term) (getD (x .line .acks .cells) 0 noAck .index))
-
-abbrev pub takeAt : Side → Call
-takeAt x = cond (eqb (x .line .entries .len) 0) (nothingAt x) call.Take
-
--- `main` and `catch` offer the index due, terms are current, and `join` reports the last index
-abbrev pub callAt : Side → Step → Index → Call
-callAt x Main current = call.Main (indexAfter current)
-callAt x (At Catch w) current = call.Catch (x .term) (x .due)
-callAt x (At Send w) current = call.Send
-callAt x (At Written w) current = call.Written (x .term)
-callAt x (At Ack w) current = ackAt x
-callAt x (At Drop w) current = call.Drop
-callAt x (At Join w) current = call.Join (x .record .last)
-callAt x (At Take w) current = takeAt x
-
--- what a call of player p at window w gives, and what Send makes of an output of ten zeros
-abbrev pub Answers : List ℕ → ℕ → Player → Call → Played → List ℕ → Type 0
-Answers ns w p (call.Main i) r out = Meets p r (mainRule ns (i .0) (playerOf p))
-Answers ns w p (call.Catch t i) r out = Meets p r (catchRule ns w t (i .0) (playerOf p))
-Answers ns w p call.Send r out = (Meets p r (sendRule ns w 10 (playerOf p))) × (out ≡ sendOutput ns w (replicate 10 0) (playerOf p))
-Answers ns w p (call.Written t) r out = Meets p r (writtenRule ns w t (playerOf p))
-Answers ns w p (call.Ack t i) r out = Meets p r (ackRule ns w t (i .0) (playerOf p))
-Answers ns w p call.Drop r out = Meets p r (dropRule ns w (playerOf p))
-Answers ns w p (call.Join i) r out = Meets p r (joinRule ns w (i .0) (playerOf p))
-Answers ns w p call.Take r out = r ≡ record { answer = Done; player = p }
-Answers ns w p (call.Nothing a) r out = r ≡ record { answer = a; player = p }
+-- what is then in the output of ten zeros
+abbrev pub outputAt : List ℕ → Player → Step → List ℕ
+outputAt ns p Main = replicate 10 0
+outputAt ns p (At Catch w) = replicate 10 0
+outputAt ns p (At Send w) = sendOutput ns w (replicate 10 0) (playerOf p)
+outputAt ns p (At Written w) = replicate 10 0
+outputAt ns p (At Ack w) = replicate 10 0
+outputAt ns p (At Drop w) = replicate 10 0
+outputAt ns p (At Join w) = replicate 10 0
+outputAt ns p (At Take w) = replicate 10 0
 
 -- ------------------------------------------------------------------------
--- What a step leaves
+-- What a step leaves that is answered 0
 
 -- the record as it was, and this line
-abbrev pub settledAs : Side → ℕ → Line → Settled
-settledAs x n l = record { reply = Answered n; «record» = x .record; line = l }
+abbrev pub settledAs : Slot → Line → Settled
+settledAs x l = record { reply = Answered 0; «record» = x .record; line = l }
 
--- another line where the answer is 0, and all as it was where it is not
-pub record Relined (x : Side) (n : ℕ) (after : Line → Type 0) (r : Settled) : Type 0 where
-  pub is : r ≡ settledAs x n (r .line)
-  pub refused : (n ≡ 0 → ⊥) → r .line ≡ x .line
-  pub done : n ≡ 0 → after (r .line)
+-- a line of which this holds
+pub record Relined (x : Slot) (after : Line → Type 0) (r : Settled) : Type 0 where
+  pub is : r ≡ settledAs x (r .line)
+  pub line : after (r .line)
 
 -- the front entry taken
-abbrev pub takeFrom : Side → Outcome
+abbrev pub takeFrom : Slot → Taking.Outcome
 takeFrom x = takeNumbers (fiveOf (placedOf (getD (x .line .entries .cells) 0 noSent .numbers))) (x .record)
 
-pub record Takes (x : Side) (r : Settled) : Type 0 where
+pub record Takes (x : Slot) (r : Settled) : Type 0 where
   pub reply : r .reply ≡ Answered (takeFrom x .number)
   pub own : r .record ≡ takeFrom x .record′
   pub line : TakenOff (x .line) (getD (x .line .entries .cells) 0 noSent) (r .line)
 
--- what a call leaves that was answered n
-abbrev pub Settles : Side → Call → ℕ → List ℕ → Settled → Type 0
-Settles x (call.Main i) n out r = r ≡ settledAs x n (x .line)
-Settles x (call.Catch t i) n out r = r ≡ settledAs x n (x .line)
-Settles x call.Send n out r = Relined x n (Grown (x .line) (batchShown out (x .term))) r
-Settles x (call.Written t) n out r = r ≡ settledAs x n (x .line)
-Settles x (call.Ack t i) n out r = Relined x n (AckedOff (x .line)) r
-Settles x call.Drop n out r = r ≡ settledAs x n (x .line)
-Settles x (call.Join i) n out r = Relined x n (λ l. l ≡ freshLine) r
-Settles x call.Take n out r = n ≡ 0 → Takes x r
-Settles x (call.Nothing a) n out r = r ≡ record { reply = cond (eqb n 0) Empty (Answered n); «record» = x .record; line = x .line }
+abbrev pub Settles : Slot → Step → List ℕ → Settled → Type 0
+Settles x Main out r = r ≡ settledAs x (x .line)
+Settles x (At Catch w) out r = r ≡ settledAs x (x .line)
+Settles x (At Send w) out r = Relined x (Grown (x .line) (batchShown out (x .term))) r
+Settles x (At Written w) out r = r ≡ settledAs x (x .line)
+Settles x (At Ack w) out r = Relined x (AckedOff (x .line)) r
+Settles x (At Drop w) out r = r ≡ settledAs x (x .line)
+Settles x (At Join w) out r = r ≡ settledAs x freshLine
+Settles x (At Take w) out r = Takes x r
 
 -- ------------------------------------------------------------------------
 -- The stage after a step
 
--- another player, and another record and line for window w, where there is one
+-- another player, and another record and line for window w
 abbrev pub storedAt : ℕ → Player → Record → Line → Stage → Stage
-storedAt w p r l s = record {
-  player = p;
-  records = cond (ltb w (s .player .count)) (set (s .records) w r) (s .records);
-  lines = cond (ltb w (s .player .count)) (set (s .lines) w l) (s .lines);
-}
+storedAt w p r l s = record { player = p; records = set (s .records) w r; lines = set (s .lines) w l }
 
 -- with the reply
 abbrev pub storedBy : Stage → ℕ → Player → Settled → Stepped
 storedBy s w p x = record { reply = x .reply; stage = storedAt w p (x .record) (x .line) s }
-
--- a call of the player, and nothing else
-abbrev pub calledBy : Stage → ℕ → Played → Stepped
-calledBy s w r = storedBy s w (r .player) (settledAs (sideIn w s) (numberOf (r .answer)) (lineAt w s))
-
--- a Take or an Ack where the line of window w is empty
-abbrev pub emptyAt : Stage → ℕ → Stepped
-emptyAt s w =
-    storedBy s w (s .player)
-    (record { reply = cond (ltb w (s .player .count)) Empty (Answered 2); «record» = recordAt w s; line = lineAt w s })

@@ -13,6 +13,7 @@ use Rattle.record.specs.declared.Record.{Record}
 use Rattle.record.specs.Record.{takeNumbers}
 use Rattle.rules.specs.View.{WindowView, PlayerView, noWindow}
 use Rattle.rules.specs.Rules.{windowAt, withWindow}
+use Rattle.player.specs.declared.Player.{Player}
 use Rattle.player.specs.View.{playerOf}
 use Rattle.delivery.specs.World.{World, sideAt, withSide, takeFront, answered, takeAtLine}
 use Rattle.delivery.specs.World as W
@@ -21,13 +22,13 @@ use Rattle.script_line.specs.declared.Verb.the-variants.{Take}
 use Rattle.script.specs.declared.line.Sent.{Sent}
 use Rattle.script.specs.declared.line.Ack.{Ack}
 use Rattle.script.specs.declared.line.Line.{Line}
-use Rattle.script.specs.declared.side.Side.{Side}
+use Rattle.script.specs.declared.slot.Slot.{Slot}
 use Rattle.script.specs.declared.settle.Settled.{Settled}
 use Rattle.script.specs.declared.Stage.{Stage}
 use Rattle.script.specs.Line.{placedOf, noSent, sentOf, ackOf, sentIn, acksIn, ackFor, TakenOff, sentIn-first}
 use Rattle.script.specs.Stage.{sideOf, worldOf, forget, replyOf, lineAt}
 use Rattle.script.specs.Promise.{Steps}
-use Rattle.script.specs.Stored.{sideIn, Takes, storedBy}
+use Rattle.script.specs.Stored.{slotIn, Takes, storedBy}
 use Rattle.script.specs.Worlds.{worldOf-count, worldOf-forgets, Staged, worldOf-side, worldOf-placed}
 use Rattle.script.specs.Calls.{steps-as}
 use Rattle.script.specs.Settled.{lineAt-within, line-here}
@@ -43,7 +44,7 @@ ackOf-taken x acks true = map-append ackOf acks (ackFor x ∷ [])
 ackOf-taken x acks false = refl
 
 -- a window's side once its front entry is taken
-sideOf-taken : (v : WindowView) (x : Side) (own : Record) (l : Line) (sent : Sent) (rest : List Sent) →
+sideOf-taken : (v : WindowView) (x : Slot) (own : Record) (l : Line) (sent : Sent) (rest : List Sent) →
     sentIn (x .line .entries) ≡ sent ∷ rest →
     own ≡ takeNumbers (fiveOf (placedOf (sent .numbers))) (x .record) .record′ → TakenOff (x .line) sent l →
     sideOf v own l ≡ forget (takeFront (sentOf sent) (map sentOf rest) (sideOf v (x .record) (x .line)))
@@ -60,10 +61,10 @@ sideOf-taken v x own l sent rest front o off =
       taken = [];
     }) o
 
-pub take-steps : (j : List Entry) (s : Stage) → Staged s → (w : ℕ) (r : Settled) → 0 < lineAt w s .entries .len → Takes (sideIn w s) r →
-    Steps j s (At Take w) (storedBy s w (s .player) r)
+pub take-steps : (j : List Entry) (s : Stage) → Staged s → (w : ℕ) (p : Player) (r : Settled) → playerOf p ≡ playerOf (s .player) →
+    0 < lineAt w s .entries .len → Takes (slotIn w s) r → Steps j s (At Take w) (storedBy s w p r)
 unfolding W.step
-take-steps j s h w r some k =
+take-steps j s h w p r same some k =
     let wd : World = worldOf j s in
     let v : WindowView = windowAt w (playerOf (s .player)) in
     let sent : Sent = getD (lineAt w s .entries .cells) 0 noSent in
@@ -73,10 +74,10 @@ take-steps j s h w r some k =
     let there : w < length (wd .sides) = omega (arith, worldOf-count j s) in
     let after : W.Side → W.Side = takeFront (sentOf sent) (map sentOf rest) in
     let own = worldOf-side j s h w in
-    steps-as j s (At Take w) (takeAtLine w (map sentOf (sent ∷ rest)) wd) (storedBy s w (s .player) r)
+    steps-as j s (At Take w) (takeAtLine w (map sentOf (sent ∷ rest)) wd) (storedBy s w p r)
     (simp (lt-ltb w (length (wd .sides)) there) (ap (λ b. takeAtLine w b wd) (line-here j s h w ∙ ap (map sentOf) front)))
     (ap replyOf (k .reply) ∙ ap (λ p. answered (takeNumbers (fiveOf (placedOf (sent .numbers))) (p .record′) .number)) (sym own))
-    (worldOf-placed j s h w (s .player) v (r .record) (r .line) within (window-same w (playerOf (s .player)))
+    (worldOf-placed j s h w p v (r .record) (r .line) (same ∙ window-same w (playerOf (s .player)))
     ∙ ap (λ p. withSide w p wd)
-    (sideOf-taken v (sideIn w s) (r .record) (r .line) sent rest front (k .own) (k .line) ∙ ap (λ p. forget (after p)) (sym own))
+    (sideOf-taken v (slotIn w s) (r .record) (r .line) sent rest front (k .own) (k .line) ∙ ap (λ p. forget (after p)) (sym own))
     ∙ sym (worldOf-forgets j s w (after (sideAt w wd))))

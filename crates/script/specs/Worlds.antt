@@ -5,7 +5,7 @@ use mathlib.Core.List.{List}
 use mathlib.Core.Bool.{Bool, true, false, cond}
 use native.Mathlib.Omega.{arith}
 use borrow.Author.Tests.{eqb-true, lt-ltb, le-ltb, ltb-true, ltb-false}
-use lib.ListN.{length, getD, set, length-set, List·getD-eq-default}
+use lib.ListN.{length, getD, set, List·getD-eq-default}
 use lib.Seq.{set-getD}
 use lib.Dec.{ltb}
 use Rattle.journal.specs.declared.Entry.{Entry}
@@ -28,7 +28,7 @@ use Rattle.script.specs.declared.Stage.{Stage}
 use Rattle.lists.specs.Cells.{front}
 use Rattle.script.specs.Line.{sentIn, acksIn, freshLine}
 use Rattle.script.specs.Stage.{sideOf, sidesOf, worldOf, forget, forgotten, recordAt, lineAt}
-use Rattle.script.specs.Stored.{absent, present, sideIn, storedAt}
+use Rattle.script.specs.Stored.{absent, present, slotIn, storedAt}
 use Rattle.script.specs.Sides.{sidesOf-length, sidesOf-forget, sidesOf-views, sidesOf-at, sidesOf-set, sidesOf-with, forgotten-player, forgotten-side}
 
 -- ------------------------------------------------------------------------
@@ -136,16 +136,15 @@ module _ (j : List Entry) (s : Stage) (h : Staged s) where
 
   module _ (w : ℕ) where
     -- one side replaced, the others as before
-    pub worldOf-placed : (p : Player) (v : WindowView) (r : Record) (l : Line) → w < s .player .count →
+    pub worldOf-placed : (p : Player) (v : WindowView) (r : Record) (l : Line) →
         playerOf p ≡ withWindow w v (playerOf (s .player)) → worldOf j (storedAt w p r l s) ≡ withSide w (sideOf v r l) (worldOf j s)
     unfolding worldOf
-    worldOf-placed p v r l here e =
+    worldOf-placed p v r l e =
         let q : PlayerView = playerOf (s .player) in
         let sides : List WindowView → List Side = λ vs. sidesOf vs (set (s .records) w r) (set (s .lines) w l) in
-        rw (lt-ltb w (s .player .count) here)
-        (ap (λ q. record { journal = j; limit = q .limit; current = q .current; sides = sides (q .windows) }) e
+        ap (λ q. record { journal = j; limit = q .limit; current = q .current; sides = sides (q .windows) }) e
         ∙ ap (λ ps. record { journal = j; limit = q .limit; current = q .current; sides = ps })
-        (sidesOf-set (q .windows) (s .records) (s .lines) w v r l records-few lines-few))
+        (sidesOf-set (q .windows) (s .records) (s .lines) w v r l records-few lines-few)
 
     -- a turn of window w and another line for it, where the world changes the window's side so after that turn
     pub worldOf-turned : (p : Player) (q : PlayerView) (v : WindowView) (l : Line) (g : Side → Side) → w < s .player .count →
@@ -154,22 +153,22 @@ module _ (j : List Entry) (s : Stage) (h : Staged s) where
         worldOf j (storedAt w p (recordAt w s) l s) ≡ forgotten (changed w g (withPlayer q (worldOf j s)))
     worldOf-turned p q v l g here is turn same =
         let wd : World = worldOf j s in
-        worldOf-placed p v (recordAt w s) l here (is ∙ turn)
+        worldOf-placed p v (recordAt w s) l (is ∙ turn)
         ∙ ap (λ x. withSide w x wd) same
         ∙ sym (worldOf-forgets j s w (g (withView v (sideAt w wd))))
         ∙ sym (ap forgotten (changed-turn w g v q wd (omega (arith, worldOf-count j s)) (turn ∙ ap (withWindow w v) (sym worldOf-player))))
 
 -- ------------------------------------------------------------------------
--- sideIn, storedAt
+-- slotIn, storedAt
 
 -- what a stage has for a window that is not there, and for one that is
-pub sideIn-absent : (s : Stage) (w : ℕ) → s .player .count ≤ w → absent ≡ sideIn w s
-sideIn-absent s w h = rw (le-ltb w (s .player .count) h, windowAt-none (s .player) w h)
+pub slotIn-absent : (s : Stage) (w : ℕ) → s .player .count ≤ w → absent ≡ slotIn w s
+slotIn-absent s w h = rw (le-ltb w (s .player .count) h, windowAt-none (s .player) w h)
 
-pub sideIn-present : (s : Stage) → Staged s → length (s .player .windows) ≡ 16 → (w : ℕ) (x : Window) (r : Record) (l : Line) →
+slotIn-present : (s : Stage) → Staged s → length (s .player .windows) ≡ 16 → (w : ℕ) (x : Window) (r : Record) (l : Line) →
     w < s .player .count →
-    present (viewOf (getD (s .player .windows) w x)) (getD (s .records) w r) (getD (s .lines) w l) ≡ sideIn w s
-sideIn-present s h windows w x r l here =
+    present (viewOf (getD (s .player .windows) w x)) (getD (s .records) w r) (getD (s .lines) w l) ≡ slotIn w s
+slotIn-present s h windows w x r l here =
     rw (
       lt-ltb w (s .player .count) here,
       windowAt-here (s .player) w x here (omega arith),
@@ -177,21 +176,19 @@ sideIn-present s h windows w x r l here =
       getD-any (s .lines) w l freshLine (omega arith),
     )
 
--- a list stays as long
-pub storedAt-length : {A : Type 0} (w n : ℕ) (xs : List A) (x : A) → length (cond (ltb w n) (set xs w x) xs) ≡ length xs
-storedAt-length w n xs x = by (ltb w n)
+-- either, by whether the window is one of the player's
+pub slotIn-of : (s : Stage) → Staged s → length (s .player .windows) ≡ 16 → (w : ℕ) (x : Window) (r : Record) (l : Line) →
+    cond (ltb w (s .player .count)) (present (viewOf (getD (s .player .windows) w x)) (getD (s .records) w r) (getD (s .lines) w l)) absent
+    ≡ slotIn w s
+slotIn-of s h windows w x r l = by (ltb w (s .player .count)) refl
   where
-    by : (b : Bool) → length (cond b (set xs w x) xs) ≡ length xs
-    by true = length-set xs w x
-    by false = refl
+    by : (b : Bool) → ltb w (s .player .count) ≡ b →
+        cond b (present (viewOf (getD (s .player .windows) w x)) (getD (s .records) w r) (getD (s .lines) w l)) absent ≡ slotIn w s
+    by true e = slotIn-present s h windows w x r l (ltb-true _ _ e)
+    by false e = slotIn-absent s w (ltb-false _ _ e)
 
 -- what is there stored again
-pub storedAt-same : (s : Stage) (w : ℕ) (p : Player) →
+pub storedAt-same : (s : Stage) (w : ℕ) (p : Player) → w < s .player .count →
     storedAt w p (recordAt w s) (lineAt w s) s ≡ record { player = p; records = s .records; lines = s .lines }
-storedAt-same s w p =
-    ap₂ (λ rs ls. record { player = p; records = rs; lines = ls })
-    (same (ltb w (s .player .count)) (s .records) newRecord) (same (ltb w (s .player .count)) (s .lines) freshLine)
-  where
-    same : {A : Type 0} (b : Bool) (xs : List A) (d : A) → cond b (set xs w (cond b (getD xs w d) d)) xs ≡ xs
-    same true xs d = set-getD xs w d
-    same false xs d = refl
+storedAt-same s w p here =
+    rw (lt-ltb w (s .player .count) here, set-getD (s .records) w newRecord, set-getD (s .lines) w freshLine)

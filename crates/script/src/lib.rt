@@ -1,10 +1,10 @@
 // A run by script: the player, the windows' records and the lines between them, by value, and one step at a time.
-mod call;
+mod early;
 mod line;
 mod open;
 mod play;
 mod settle;
-mod side;
+mod slot;
 
 use line::Line;
 use player::Player;

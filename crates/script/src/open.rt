@@ -7,12 +7,13 @@ use player::Player;
 use record::Record;
 use window::Window;
 ghost use mathlib.Core.Path.{_≡_};
-ghost use Rattle.player.specs.View.{playerOf};
-ghost use Rattle.script.specs.Opening.{noPlayer, Opens};
+ghost use mathlib.Core.List.{[]};
+ghost use Rattle.player.specs.Promise.{freshPlayer};
+ghost use Rattle.script.specs.Opening.{openedBy};
 
 // A player with no windows.
 fn blank() -> Player
-    ensures { λ r. ⌜ playerOf r ≡ noPlayer ⌝ }
+    ensures { λ r. ⌜ r ≡ freshPlayer 0 0 [] ⌝ }
 {
     let window = Window::started(Index(0));
     let windows = [window; 16];
@@ -28,7 +29,7 @@ impl Stage {
     // A stage after a first Start with so many windows, the batch limit 2 and a report of 0 from each; not opened, and with no windows,
     // where that is refused.
     pub fn open(journal: &[u32], count: u32) -> Opened
-        ensures { λ r. ⌜ Opens (now (journal .entry)) count r ⌝ }
+        ensures { λ r. ⌜ r ≡ openedBy (now (journal .entry)) count ⌝ }
     {
         let player = blank();
         let record = Record::new();

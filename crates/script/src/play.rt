@@ -2,13 +2,16 @@
 use crate::Reply;
 use crate::Stage;
 use crate::Stepped;
-use crate::call::Call;
-use crate::side::Side;
+use crate::early::Early;
+use crate::slot::Slot;
+use journal::Index;
 use player::Played;
 use script_line::Step;
+use script_line::Verb;
 use window::Answer;
 ghost use mathlib.Core.Path.{_≡_};
 ghost use Rattle.script.specs.Stage.{windowOf};
+ghost use Rattle.script.specs.Stored.{indexAfter};
 ghost use Rattle.script.specs.Promise.{Plays};
 
 // The window that a step names, and 0 where it names none.
@@ -21,59 +24,59 @@ fn window_of(step: Step) -> u32
     }
 }
 
+// The index after this one, where there is one.
+fn after(index: Index) -> Index
+    ensures { λ r. ⌜ r ≡ indexAfter index ⌝ }
+{
+    if index.0 == 4294967295 {
+        return index;
+    }
+    Index(index.0 + 1)
+}
+
 impl Stage {
     // One step of a script: Answered(1), with the stage as it was, where the journal is out of shape or the stage does not fit.
     pub fn step(mut self, journal: &[u32], step: Step) -> Stepped
         ensures { λ r. ⌜ Plays (now (journal .entry)) self step r ⌝ }
     {
         let player = self.player;
-        let count = player.count;
-        let w = window_of(step);
-        let at = w as usize;
-        if !journal::in_shape(journal) || 16 < count {
-            return Stepped {
-                reply: Reply::Answered(1),
-                stage: self,
-            };
+        let at = window_of(step) as usize;
+        let there = at < player.count as usize;
+        let mut slot = Slot::none();
+        if at < 16 {
+            slot = Slot::of(there, player.windows[at], self.records[at], self.lines[at]);
         }
-        let mut side = Side::none();
-        if w < count {
-            side = Side::of(player.windows[at], self.records[at], self.lines[at]);
+        if let Early::Answer(reply) = slot.early(journal, player.count, step) {
+            return Stepped { reply, stage: self };
         }
-        if !side.has_room() {
-            return Stepped {
-                reply: Reply::Answered(1),
-                stage: self,
-            };
-        }
-        let current = player.current;
-        let call = side.call(step, current);
+        let answer = Answer::Done;
         let mut out = [0; 10];
-        let played = match call {
-            Call::Main(index) => operations::main_on(player, journal, index),
-            Call::Catch(term, index) => operations::catch_on(player, journal, w, term, index),
-            Call::Send => operations::send_on(player, journal, w, &mut out),
-            Call::Written(term) => operations::written_on(player, journal, w, term),
-            Call::Ack(term, index) => operations::ack_on(player, journal, w, term, index),
-            Call::Drop => operations::drop_on(player, journal, w),
-            Call::Join(report) => operations::join_on(player, journal, w, report),
-            Call::Take => Played {
-                answer: Answer::Done,
-                player,
+        let played = match step {
+            Step::Main => operations::main_on(player, journal, after(player.current)),
+            Step::At(verb, w) => match verb {
+                Verb::Catch => operations::catch_on(player, journal, w, slot.term, slot.due),
+                Verb::Send => operations::send_on(player, journal, w, &mut out),
+                Verb::Written => operations::written_on(player, journal, w, slot.term),
+                Verb::Ack => operations::ack_on(player, journal, w, slot.ack.term, slot.ack.index),
+                Verb::Drop => operations::drop_on(player, journal, w),
+                Verb::Join => operations::join_on(player, journal, w, slot.record.last),
+                Verb::Take => Played { answer, player },
             },
-            Call::Nothing(answer) => Played { answer, player },
         };
         let answer = played.answer;
-        let settled = side.settled(call, answer.number(), out);
-        let next = played.player;
-        self.player = next;
-        if w < count {
-            let record = settled.record;
-            let line = settled.line;
-            self.records[at] = record;
-            self.lines[at] = line;
+        let number = answer.number();
+        if number != 0 {
+            let reply = Reply::Answered(number);
+            return Stepped { reply, stage: self };
         }
+        let settled = slot.settled(step, out);
+        let next = played.player;
+        let record = settled.record;
+        let line = settled.line;
         let reply = settled.reply;
+        self.player = next;
+        self.records[at] = record;
+        self.lines[at] = line;
         Stepped { reply, stage: self }
     }
 }

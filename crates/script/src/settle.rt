@@ -1,11 +1,12 @@
-// What a step leaves for its window, once its call is answered.
+// What a step leaves for its window, once its call is answered 0.
 use crate::Reply;
-use crate::call::Call;
 use crate::line::Line;
 use crate::line::Sent;
-use crate::side::Side;
+use crate::slot::Slot;
 use record::Record;
 use record::Taken;
+use script_line::Step;
+use script_line::Verb;
 ghost use Prim.Native.Nat.{_≤_};
 ghost use mathlib.Core.Path.{_≡_};
 ghost use Rattle.journal.specs.Entry.{fiveOf};
@@ -28,14 +29,14 @@ fn taken_by(record: Record, sent: Sent) -> Taken
     record::take_by_value(record, &numbers)
 }
 
-impl Side {
-    // An answer, the record as it is, and this line.
-    fn with_line(self, number: u32, line: Line) -> Settled
-        ensures { λ r. ⌜ r ≡ settledAs self number line ⌝ }
+impl Slot {
+    // Answered 0, the record as it is, and this line.
+    fn with_line(self, line: Line) -> Settled
+        ensures { λ r. ⌜ r ≡ settledAs self line ⌝ }
     {
         let record = self.record;
         Settled {
-            reply: Reply::Answered(number),
+            reply: Reply::Answered(0),
             record,
             line,
         }
@@ -60,34 +61,25 @@ impl Side {
         }
     }
 
-    // What is left for the window once its call is answered with this number. A refusal leaves all as it was; answered 0, Send puts the
-    // batch that it wrote on the line, Ack takes its ack off it, and Join empties it.
-    pub(crate) fn settled(self, call: Call, number: u32, out: [u32; 10]) -> Settled
+    // What a step leaves whose call is answered 0: Send puts the batch that it wrote on the line, Ack takes its ack off it, Join empties it,
+    // and Take takes the front entry.
+    pub(crate) fn settled(self, step: Step, out: [u32; 10]) -> Settled
         requires { ⌜ (self .line .entries .len ≤ 16) × (self .line .acks .len ≤ 8) ⌝ }
-        ensures { λ r. ⌜ Settles self call number out r ⌝ }
+        ensures { λ r. ⌜ Settles self step out r ⌝ }
     {
         let line = self.line;
         let term = self.term;
-        if number != 0 {
-            return self.with_line(number, line);
-        }
-        match call {
-            Call::Main(_) => self.with_line(number, line),
-            Call::Catch(_, _) => self.with_line(number, line),
-            Call::Send => self.with_line(number, line.loaded(out, term)),
-            Call::Written(_) => self.with_line(number, line),
-            Call::Ack(_, _) => self.with_line(number, line.acked()),
-            Call::Drop => self.with_line(number, line),
-            Call::Join(_) => self.with_line(number, Line::new()),
-            Call::Take => self.taken(),
-            Call::Nothing(_) => {
-                let record = self.record;
-                Settled {
-                    reply: Reply::Empty,
-                    record,
-                    line,
-                }
-            }
+        let Step::At(verb, _) = step else {
+            return self.with_line(line);
+        };
+        match verb {
+            Verb::Catch => self.with_line(line),
+            Verb::Send => self.with_line(line.loaded(out, term)),
+            Verb::Written => self.with_line(line),
+            Verb::Ack => self.with_line(line.acked()),
+            Verb::Drop => self.with_line(line),
+            Verb::Join => self.with_line(Line::new()),
+            Verb::Take => self.taken(),
         }
     }
 }

@@ -21,12 +21,14 @@ use Rattle.journal_text.specs.Text.{header}
 use Rattle.journal_text.specs.Scan.{scan}
 use Rattle.journal_text.specs.Answers.{answer}
 use Rattle.journal_text.specs.AnswerLaws.{Reads, reads-good, reads-bad}
-use Rattle.table.specs.Run.{RunA, row-a}
+use Rattle.table.specs.Run.{RunA, row-a, StageA, row-a-stage}
 use Rattle.table.specs.States.{OneMore, oneMore-wanted, oneMore-window, EightOut, eightOut-within, eightOut-here, MoreReady, moreReady-taken, moreReady-length, moreReady-answer, Away, OpenUntil, openUntil-stamps}
 
 pub record ProvedTable : Type 0 where
   -- (a) The run above.
   pub a : (before : PlayerView) → RunA before
+  -- and so by the stage's own steps
+  pub a-stage : StageA
   -- (b) Empty journal: Main gives 4.
   pub b : (i : ℕ) (p : PlayerView) → shape [] p ≡ true → mainRule [] i p .answer ≡ 4
   -- (c) 128 queued, one more Main entry: Fetching. The 128 are then in the catch-up queue.
@@ -70,6 +72,7 @@ pub proved-table : ProvedTable
 unfolding scan numbersOf
 proved-table = record {
   a = row-a;
+  a-stage = row-a-stage;
   b = λ i p s. mainRule-refusals [] i p ∙ simp (s, eq-eqb (p .current) 0 (omega (arith, shaped [] p s .currentIn)));
   c = λ ns p w q.
       let e = oneMore-window q ∙ mainAt-normal (entriesOf ns) w _ _ (oneMore-wanted q) (q .condition) (omega (arith, q .queued)) in

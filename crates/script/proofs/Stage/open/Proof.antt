@@ -1,6 +1,6 @@
 -- Above 16 windows Start is refused; else it gets as many reports of 0 as there are windows.
 use mathlib.Core.Path.{refl}
-use Rattle.script.specs.Opening.{reports-count, opens-over, opens-start}
+use Rattle.script.specs.Opening.{reports-count, openedBy-over, openedBy-start}
 use borrow.Author.Needs.{needs}
 use Rattle.script.proofs.Stage.open.Statement.{statement}
 use Rattle.script.proofs.Stage.open.Tie as tie
@@ -17,7 +17,7 @@ new-requires-2 c κs = search needs
 returns : tie.Need-returns
 returns c =
     let lines = c .before in
-    rw (lines .before .new .ensures, lines .new2 .ensures) (opens-over _ _ _ (lines .before .before .blank .ensures) (c .if1 .taken))
+    rw (lines .before .new .ensures, lines .new2 .ensures) (openedBy-over _ _ _ (lines .before .before .blank .ensures) (c .if1 .taken))
 
 array-share-prefix-reports : tie.Need-array-share-prefix-reports
 array-share-prefix-reports c = search needs
@@ -37,7 +37,7 @@ returns-2 c =
     let below = called .before .before in
     let lines = below .before in
     rw (lines .before .new .ensures, lines .new2 .ensures, c .number .ensures)
-    (opens-start _ _ _ (lines .before .before .blank .ensures) _ _ (below .if1 .left) refl (called .start-on .ensures))
+    (openedBy-start _ _ _ (lines .before .before .blank .ensures) _ _ (below .if1 .left) refl (called .start-on .ensures))
 
 pub open-spec : {M : Type 1} → statement M
 open-spec =

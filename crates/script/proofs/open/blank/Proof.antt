@@ -1,7 +1,8 @@
--- A count of 0 shows no windows.
+-- Sixteen fresh windows, none of them counted.
 use mathlib.Core.Path.{refl}
 use borrow.Author.Needs.{needs}
-use Rattle.player.specs.View.{playerOf, firstWindows}
+use Rattle.rules.specs.Rules.{least}
+use Rattle.player.specs.Promise.{freshWindows}
 use Rattle.script.proofs.open.blank.Statement.{statement}
 use Rattle.script.proofs.open.blank.Tie as tie
 
@@ -9,8 +10,8 @@ started-requires : tie.Need-started-requires
 started-requires c κs = search needs
 
 returns : tie.Need-returns
-unfolding playerOf firstWindows
-returns c = refl
+unfolding least freshWindows
+returns c = rw (c .started .ensures)
 
 pub blank-spec : {M : Type 1} → statement M
 blank-spec = tie.close (tie.spec started-requires returns)

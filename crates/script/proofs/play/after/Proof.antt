@@ -1,8 +1,8 @@
 -- The last index has none after it, and each other one more.
 use borrow.Author.Tests.{eq-eqb, ne-eqb}
 use borrow.Author.Needs.{needs}
-use Rattle.script.proofs.call.after.Statement.{statement}
-use Rattle.script.proofs.call.after.Tie as tie
+use Rattle.script.proofs.play.after.Statement.{statement}
+use Rattle.script.proofs.play.after.Tie as tie
 
 returns : tie.Need-returns
 returns c = rw (eq-eqb _ _ (c .if1 .taken))

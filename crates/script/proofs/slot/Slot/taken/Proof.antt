@@ -3,8 +3,8 @@ use mathlib.Core.Path.{ap, _∙_}
 use native.Mathlib.Omega.{arith}
 use Rattle.script.specs.declared.Reply.the-variants.{Answered}
 use borrow.Author.Needs.{needs}
-use Rattle.script.proofs.side.Side.taken.Statement.{statement}
-use Rattle.script.proofs.side.Side.taken.Tie as tie
+use Rattle.script.proofs.slot.Slot.taken.Statement.{statement}
+use Rattle.script.proofs.slot.Slot.taken.Tie as tie
 
 first-requires : tie.Need-first-requires
 first-requires c κs = search needs

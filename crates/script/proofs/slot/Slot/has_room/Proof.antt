@@ -1,7 +1,7 @@
 -- The first test that fails, and else the second, is the conjunction.
 use borrow.Author.Tests.{le-leb, lt-leb}
-use Rattle.script.proofs.side.Side.has_room.Statement.{statement}
-use Rattle.script.proofs.side.Side.has_room.Tie as tie
+use Rattle.script.proofs.slot.Slot.has_room.Statement.{statement}
+use Rattle.script.proofs.slot.Slot.has_room.Tie as tie
 
 returns : tie.Need-returns
 returns c = rw (lt-leb _ _ (c .if1 .taken))

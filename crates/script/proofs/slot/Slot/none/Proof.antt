@@ -1,7 +1,7 @@
 -- Its record and its line are new.
 use borrow.Author.Needs.{needs}
-use Rattle.script.proofs.side.Side.none.Statement.{statement}
-use Rattle.script.proofs.side.Side.none.Tie as tie
+use Rattle.script.proofs.slot.Slot.none.Statement.{statement}
+use Rattle.script.proofs.slot.Slot.none.Tie as tie
 
 new-requires : tie.Need-new-requires
 new-requires c κs = search needs
