@@ -1,4 +1,4 @@
--- The laws of Ack: the batches that it strikes off, what it does at one window, and the rule.
+-- The laws of Ack: its refusals, the batches that it strikes off, what it does at one window, and the rule.
 use Prim.Native.Nat.{ℕ, suc, _≤_, _<_}
 use mathlib.Core.Path.{_≡_, refl, _∙_}
 use mathlib.Core.List.{List, [], _∷_}
@@ -10,16 +10,33 @@ use lib.Dec.{eqb}
 use Rattle.lists.specs.Cases.{and-right}
 use Rattle.lists.specs.Elem.{elem}
 use Rattle.lists.specs.All.{all, heldIn, all-elem}
+use Rattle.lists.specs.Refusal.{_when_, firstOf}
 use Rattle.rules.specs.declared.Term.{Term}
 use Rattle.rules.specs.View.{WindowView, PlayerView}
 use Rattle.rules.specs.Shape.{shape}
 use Rattle.rules.specs.Window.{isSuspended, otherTerm, struck, acknowledged, ackAt}
 use Rattle.rules.specs.Rules.{windowAt, ackRule}
-use Rattle.rules.specs.Refusals.{ackRule-refusals}
+use Rattle.rules.specs.Refusals.{outOfShape, noSuchWindow, check-answer, operate-answer}
 use Rattle.rules.specs.Checks.{Decides, done-decides, check-decides, otherTerm-same, otherTerm-own}
 use Rattle.rules.specs.Shaped.{WindowShaped}
 use Rattle.rules.specs.Parts.{normalQueued, catchQueued, conditionShaped, here-shaped}
 use Rattle.rules.specs.Operate.{Operated, Lawful, decides-lawful, Effect, LawfulRule, operate-lawful}
+
+-- ------------------------------------------------------------------------
+-- the refusals in document 01's order
+
+-- A result to be read: 1; 2; 3; 5; 11: no unacknowledged batch ends at that index
+pub ackRule-refusals : (ns : List ℕ) (w : ℕ) (t : Term) (i : ℕ) (p : PlayerView) →
+    let v : WindowView = windowAt w p in
+    ackRule ns w t i p .answer ≡ firstOf
+    (1 when outOfShape ns p
+    ∷ 2 when noSuchWindow w p
+    ∷ 3 when isSuspended (v .condition)
+    ∷ 5 when otherTerm t v
+    ∷ 11 when not (elem i (v .batches))
+    ∷ [])
+unfolding ackRule ackAt
+ackRule-refusals ns w t i p = operate-answer ns w _ p _ (λ s. simp check-answer)
 
 -- ------------------------------------------------------------------------
 -- the batches struck off
