@@ -10,7 +10,7 @@ use Rattle.journal.specs.Entry.{Placed, entry4, numbersOf, entriesOf, entryAt, 
 use Rattle.queue.specs.Items.{itemsOf, batchesOf}
 use Rattle.record.specs.Record.{raceAfter, racesAfter, recordAfter, takeEntry, takeNumbers}
 use Rattle.rules.specs.declared.Term.{Term}
-use Rattle.rules.specs.Shape.{windowShape, allWindows, shape}
+use Rattle.rules.specs.Shape.{windowShape, shape}
 use Rattle.rules.specs.Window.{check, enqueue, mainAt, readyIn, batchOf, launched, sendAt, struck, ackAt}
 use Rattle.rules.specs.Rules.{operate, mapWindows, mainRule, ackRule, sendRule, sendOutput, batchNumbers, areReports, least, startRule}
 use Rattle.window.specs.View.{viewOf}
@@ -61,7 +61,7 @@ unfolding
     playedFor takenFor Held.takenBy Held.playerFrom Held.windowFrom Held.conditionFrom Held.queueFrom Held.batchesFrom Held.filled
     freshWindows playerOf firstWindows viewOf itemsOf batchesOf front
     startRule areReports least mainRule ackRule sendRule sendOutput batchNumbers operate mapWindows
-    shape windowShape allWindows all
+    shape windowShape all
     check enqueue mainAt readyIn batchOf launched sendAt struck ackAt
     raceAfter racesAfter recordAfter takeEntry takeNumbers
     numbersOf entriesOf entryAt hasWindow isFor

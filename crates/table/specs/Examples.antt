@@ -10,7 +10,7 @@ use Rattle.lists.specs.All.{all}
 use Rattle.record.specs.Record.{newRecord, raceAfter, racesAfter, recordAfter, takeEntry, takeAll}
 use Rattle.record.specs.Laws.{raceAt}
 use Rattle.rules.specs.View.{normal, suspended, WindowView, PlayerView}
-use Rattle.rules.specs.Shape.{windowShape, allWindows, shape}
+use Rattle.rules.specs.Shape.{windowShape, shape}
 use Rattle.rules.specs.Window.{isReport}
 use Rattle.table.specs.States.{OneMore, EightOut, MoreReady, Away, OpenUntil}
 
@@ -72,7 +72,7 @@ gone acked sent = record {
 -- to unfold this is to unfold the definitions that the examples compute with
 examples : Unit {0}
 unfolding
-    countUp shape windowShape allWindows all numbersOf entriesOf entryAt hasWindow isFor
+    countUp shape windowShape all numbersOf entriesOf entryAt hasWindow isFor
     takeAll takeEntry recordAfter racesAfter raceAfter
 examples = tt
 
