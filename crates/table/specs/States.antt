@@ -9,10 +9,10 @@ use borrow.Author.Tests.{lt-ltb}
 use lib.ListN.{length, length-take}
 use lib.Dec.{ltb}
 use Rattle.lists.specs.Cases.{and-intro}
-use Rattle.journal.specs.Entry.{entriesOf, isFor}
+use Rattle.journal.specs.Entry.{isRace, entriesOf, isFor}
 use Rattle.journal.specs.EntryLaws.{entriesOf-length, isFor-within}
 use Rattle.record.specs.declared.Record.{Record}
-use Rattle.record.specs.Record.{isRace, mayStamp}
+use Rattle.record.specs.Record.{mayStamp}
 use Rattle.record.specs.Laws.{raceAt, mayStamp-open}
 use Rattle.rules.specs.View.{normal, suspended, PlayerView}
 use Rattle.rules.specs.Shape.{shape}
