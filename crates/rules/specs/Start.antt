@@ -9,7 +9,7 @@ use borrow.Author.Tests.{eqb-true, leb-true}
 use lib.ListN.{length, getD, length-map}
 use lib.Dec.{leb, eqb, ltb}
 use Rattle.journal.specs.declared.Entry.{Entry}
-use Rattle.lists.specs.Cases.{and-left, and-right, not-and, not-or, not-leb}
+use Rattle.lists.specs.Cases.{cond-ap, and-left, and-right, not-and, not-or, not-leb}
 use Rattle.lists.specs.Refusal.{_when_, firstOf}
 use Rattle.journal.specs.Entry.{inShape, countOf, entriesOf, isFor}
 use Rattle.journal.specs.EntryLaws.{entriesOf-length}
@@ -18,7 +18,6 @@ use Rattle.rules.specs.View.{PlayerView}
 use Rattle.rules.specs.Shape.{countFits, limitFits, shape}
 use Rattle.rules.specs.Window.{started}
 use Rattle.rules.specs.Rules.{Outcome, refuse, windowAt, isStartReport, areReports, least, startRule}
-use Rattle.rules.specs.Refusals.{cond-answer}
 use Rattle.rules.specs.Shaped.{WindowShaped, shape-of}
 use Rattle.rules.specs.Parts.{queued-none, normal-shaped, here-shaped}
 
@@ -47,7 +46,7 @@ pub startRule-refusals : (ns : List ℕ) (count limit : ℕ) (reports : List ℕ
     ∷ 13 when someBadReport (entriesOf ns) 0 reports
     ∷ [])
 unfolding startRule
-startRule-refusals ns count limit reports p = simp (cond-answer, not-and, someBadReport-is)
+startRule-refusals ns count limit reports p = simp (cond-ap (λ (o : Outcome). o .answer), not-and, someBadReport-is)
 
 -- ------------------------------------------------------------------------
 -- least
@@ -88,7 +87,8 @@ started-shaped h =
 abbrev pub startNext : ℕ → List ℕ → PlayerView
 startNext limit reports = record { limit = limit; current = least reports; windows = map started reports }
 
-pub startNext-at : (limit : ℕ) (reports : List ℕ) (w : ℕ) → w < length reports → windowAt w (startNext limit reports) ≡ started (getD reports w 0)
+pub startNext-at : (limit : ℕ) (reports : List ℕ) (w : ℕ) → w < length reports →
+    windowAt w (startNext limit reports) ≡ started (getD reports w 0)
 startNext-at limit [] w h = absurd (omega arith)
 startNext-at limit (r ∷ rs) zero h = refl
 startNext-at limit (r ∷ rs) (suc w) h = startNext-at limit rs w (omega arith)
@@ -112,10 +112,12 @@ pub record StartDone (ns : List ℕ) (count limit : ℕ) (reports : List ℕ) (o
 
 module _ (ns : List ℕ) (count limit : ℕ) (reports : List ℕ) (p : PlayerView) where
   pub startRule-cases : (P : Outcome → Type 0) → P (refuse 1 p) → P (refuse 13 p) →
-      (Startable ns count limit reports → P (record { answer = 0; next = startNext limit reports })) → P (startRule ns count limit reports p)
+      (Startable ns count limit reports → P (record { answer = 0; next = startNext limit reports })) →
+      P (startRule ns count limit reports p)
   unfolding startRule
   startRule-cases P one thirteen done =
-      go (countFits count && (limitFits limit && (inShape ns && eqb (length reports) count))) refl (areReports (entriesOf ns) 0 reports) refl
+      go (countFits count && (limitFits limit && (inShape ns && eqb (length reports) count))) refl
+      (areReports (entriesOf ns) 0 reports) refl
     where
       go : (s : Bool) → (countFits count && (limitFits limit && (inShape ns && eqb (length reports) count))) ≡ s →
           (b : Bool) → areReports (entriesOf ns) 0 reports ≡ b →
@@ -138,7 +140,8 @@ module _ (ns : List ℕ) (count limit : ℕ) (reports : List ℕ) (p : PlayerVie
       go true s false b = thirteen
       go false s t b = one
 
-  pub startRule-done : startRule ns count limit reports p .answer ≡ 0 → StartDone ns count limit reports (startRule ns count limit reports p)
+  pub startRule-done : startRule ns count limit reports p .answer ≡ 0 →
+      StartDone ns count limit reports (startRule ns count limit reports p)
   startRule-done =
       startRule-cases (λ o. o .answer ≡ 0 → StartDone ns count limit reports o) (λ e. absurd (omega arith)) (λ e. absurd (omega arith))
       (λ g e. record { given = g; next = refl })
