@@ -20,7 +20,7 @@ pub use Rattle.rules.specs.Send.{sendRule-refusals, launched-is, launche
 -- Written: what its answer 0 tells; when it is answered 0.
 pub use Rattle.rules.specs.Written.{writtenRule-refusals, WrittenOff, writtenEffect, writtenRule-lawful, writtenRule-can}
 -- Ack: the batches that it strikes off; what its answer 0 tells; when it is answered 0.
-pub use Rattle.rules.specs.Ack.{ackRule-refusals, struck-front, AckTaken, ackEffect, ackRule-lawful, ackRule-done, ackRule-can}
+pub use Rattle.rules.specs.Ack.{ackRule-refusals, struck-older, struck-front, AckTaken, ackEffect, ackRule-lawful, ackRule-done, ackRule-can}
 -- Drop: what its answer 0 tells.
 pub use Rattle.rules.specs.Drop.{dropRule-refusals, dropEffect, dropRule-lawful}
 -- Join: what its answer 0 tells; when it is answered 0.
