@@ -46,7 +46,9 @@ joinRule-refusals ns w r p = operate-answer ns w _ p _ (λ s. simp (check-answer
 
 joinAt-decides : (j : List Entry) (w current r : ℕ) (v : WindowView) →
     Decides
-    (not (isSuspended (v .condition)) ∷ eqb (v .term .0) 4294967295 ∷ (ltb r (v .acked) || (ltb (v .sent) r || not (isReport j w r))) ∷ []) v
+    (not (isSuspended (v .condition))
+    ∷ eqb (v .term .0) 4294967295
+    ∷ (ltb r (v .acked) || (ltb (v .sent) r || not (isReport j w r))) ∷ []) v
     (joined current r v) (joinAt j w current r v)
 unfolding joinAt
 joinAt-decides j w current r v = check-decides 11 (check-decides 13 (check-decides 12 (done-decides v _)))
@@ -104,7 +106,8 @@ unfolding joinRule
 joinRule-lawful ns w r p = operate-lawful ns w _ p _ (joinAt-lawful _ (entriesOf ns) w r _)
 
 pub joinRule-done : (ns : List ℕ) (w r : ℕ) (p : PlayerView) → joinRule ns w r p .answer ≡ 0 →
-    Operated ns w p (joinRule ns w r p) (JoinedOn (entriesOf ns) w (p .current) r (windowAt w p)) (λ c. joined (p .current) r (windowAt w p))
+    Operated ns w p (joinRule ns w r p) (JoinedOn (entriesOf ns) w (p .current) r (windowAt w p))
+    (λ c. joined (p .current) r (windowAt w p))
 joinRule-done ns w r p = joinRule-lawful ns w r p .does
 
 -- a Suspended window takes a report of its own, from acknowledged to sent, while its term can go up
