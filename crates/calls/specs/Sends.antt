@@ -17,7 +17,7 @@ use Rattle.rules.specs.Shape.{isEmpty}
 use Rattle.rules.specs.Window.{batchOf, launched}
 use Rattle.rules.specs.View.{WindowView, PlayerView, noWindow}
 use Rattle.rules.specs.Rules.{Outcome, windowAt, sendRule, batchNumbers, batchAt, sendOutput}
-use Rattle.rules.specs.Offers.{SentOut, sendRule-done, launched-is, batchOf-kept}
+use Rattle.rules.specs.Offers.{SentOut, sendRule-done, launched-is, batchOf-untouched}
 use Rattle.delivery.specs.World.{Side, World, sideAt, numbersIn, playerIn, onLine}
 use Rattle.delivery.specs.Invariant.{Inv, Reached, lastOf, lineEntries}
 use Rattle.delivery.specs.Lines.{onLine-entries}
@@ -104,7 +104,7 @@ record Sending (limit : ℕ) (v v′ : WindowView) : Type 0 where
 launched-sending : (limit : ℕ) (v : WindowView) → Sending limit v (launched (batchOf limit v))
 launched-sending limit v =
     let is = launched-is (batchOf limit v .indices) (batchOf limit v .rest) in
-    record { sent = ap (λ x. x .sent) is; term = ap (λ x. x .term) is ∙ batchOf-kept limit v .term }
+    record { sent = ap (λ x. x .sent) is; term = ap (λ x. x .term) is ∙ batchOf-untouched limit v .term }
 
 -- The law: of a reached world, what Send wrote, read up to the sent index that the player then holds, is the batch that the world puts on
 -- the line, five numbers an entry.

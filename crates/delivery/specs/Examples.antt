@@ -11,7 +11,7 @@ use Rattle.lists.specs.All.{all}
 use Rattle.record.specs.Record.{raceAfter, racesAfter, recordAfter, takeEntry, takeNumbers}
 use Rattle.rules.specs.declared.Term.{Term}
 use Rattle.rules.specs.View.{PlayerView}
-use Rattle.rules.specs.Shape.{windowShape, allWindows, shape}
+use Rattle.rules.specs.Shape.{windowShape, shape}
 use Rattle.rules.specs.Window.{check, enqueue, mainAt, fetched, catchIn, catchAt, readyIn, batchOf, launched, sendAt, writtenAt, struck, ackAt, dropAt, joinAt}
 use Rattle.rules.specs.Rules.{operate, mapWindows, mainRule, catchRule, writtenRule, ackRule, dropRule, joinRule, sendRule, areReports, least, startRule}
 use Rattle.delivery.specs.World.{World, sideAt, withViews, withPlayer, onLine, takeFront, Step, main, catch, written, send, take, ack, drop, join, start, Reply, answered, empty, step, run, opened}
@@ -28,7 +28,7 @@ unfoldable pub computed : Unit {0}
 unfolding
     replies run step opened withViews withPlayer onLine takeFront
     startRule areReports least mainRule catchRule writtenRule ackRule dropRule joinRule sendRule operate mapWindows
-    shape windowShape allWindows all
+    shape windowShape all
     check enqueue mainAt fetched catchIn catchAt readyIn batchOf launched sendAt writtenAt struck ackAt dropAt joinAt
     raceAfter racesAfter recordAfter takeEntry takeNumbers
     numbersOf entriesOf entryAt hasWindow isFor

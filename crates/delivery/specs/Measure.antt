@@ -13,7 +13,7 @@ use Rattle.lists.specs.Elem.{lastOr}
 use Rattle.rules.specs.View.{Condition, normal, fetching, completed, suspended, WindowView}
 use Rattle.rules.specs.Shape.{isEmpty}
 use Rattle.rules.specs.Window.{wanted, requeue, mainAt, fetched, batchOf, launched, Batch}
-use Rattle.rules.specs.Offers.{ConditionAfter, same, emptied, batchOf-condition, batchOf-kept, oneIf, mainAt-either, fetched-more, fetched-last, launched-is}
+use Rattle.rules.specs.Offers.{ConditionAfter, same, emptied, batchOf-condition, batchOf-untouched, oneIf, mainAt-either, fetched-more, fetched-last, launched-is}
 use Rattle.delivery.specs.World.{Side, withView, takeFront}
 use Rattle.delivery.specs.Invariant.{FetchingQueues, Inv, lastOf, backIndices}
 use Rattle.delivery.specs.Queued.{queues-in}
@@ -95,7 +95,7 @@ module _ {j : List Entry} {c w : ℕ} {p : Side} (inv : Inv j c w p) (read : c �
       let b : Batch = batchOf limit (p .view) in
       let is = launched-is (b .indices) (b .rest) in
       let top : lastOr 0 (b .indices) ≤ length j = rw is at (out .inv .flight .sentIn) in
-      rw is (omega (arith, out .up, batchOf-kept limit (p .view) .acked, sent-ahead (b .rest .condition) (batchOf-condition limit (p .view))))
+      rw is (omega (arith, out .up, batchOf-untouched limit (p .view) .acked, sent-ahead (b .rest .condition) (batchOf-condition limit (p .view))))
 
   pub worked-lowers : (limit : ℕ) (p′ : Side) → length j ≤ 65535 → Worked j limit w p p′ → sideWork (length j) c p′ < sideWork (length j) c p
   unfolding takeFront

@@ -1,16 +1,17 @@
 -- A test of every item of a list.
-use Prim.Native.Nat.{ℕ, zero, suc, _≤_}
+use Prim.Native.Nat.{ℕ, zero, suc, _≤_, _<_}
+use native.Mathlib.Omega.{arith}
 use mathlib.Core.Path.{_≡_, refl}
 use mathlib.Core.List.{List, [], _∷_, _++_}
 use mathlib.Core.Bool.{Bool, true, false, _&&_, _||_, and-assoc, and-eq-true-iff, false≢true}
 use borrow.Author.Tests.{leb-true, eqb-true}
-use lib.ListN.{take, drop}
+use lib.ListN.{length, take, drop, getD}
 use lib.Dec.{leb, eqb, leb·zero}
-use Rattle.lists.specs.Cases.{and-left, and-right}
+use Rattle.lists.specs.Cases.{and-left, and-right, and-intro}
 use Rattle.lists.specs.Elem.{elem, lastOr}
 
 -- every item passes a test
-unfoldable pub all : (ℕ → Bool) → List ℕ → Bool
+unfoldable pub all : {A : Type 0} → (A → Bool) → List A → Bool
 all p [] = true
 all p (x ∷ xs) = p x && all p xs
 
@@ -28,36 +29,49 @@ queuedIn l x = leb 1 x && leb x l
 abbrev pub heldIn : ℕ → ℕ → Bool
 heldIn l x = leb x l
 
-pub all-append : (p : ℕ → Bool) (xs ys : List ℕ) → all p (xs ++ ys) ≡ (all p xs && all p ys)
-unfolding all
-all-append p [] ys = refl
-all-append p (x ∷ xs) ys = rw (all-append p xs ys, and-assoc)
+module _ {A : Type 0} where
+  pub all-append : (p : A → Bool) (xs ys : List A) → all p (xs ++ ys) ≡ (all p xs && all p ys)
+  unfolding all
+  all-append p [] ys = refl
+  all-append p (x ∷ xs) ys = rw (all-append p xs ys, and-assoc)
 
-pub all-cong : (p q : ℕ → Bool) → ((x : ℕ) → p x ≡ q x) → (xs : List ℕ) → all p xs ≡ all q xs
-unfolding all
-all-cong p q e [] = refl
-all-cong p q e (x ∷ xs) = rw (e x, all-cong p q e xs)
+  pub all-cong : (p q : A → Bool) → ((x : A) → p x ≡ q x) → (xs : List A) → all p xs ≡ all q xs
+  unfolding all
+  all-cong p q e [] = refl
+  all-cong p q e (x ∷ xs) = rw (e x, all-cong p q e xs)
 
-pub all-weaken : (p q : ℕ → Bool) → ((x : ℕ) → p x ≡ true → q x ≡ true) → (xs : List ℕ) → all p xs ≡ true → all q xs ≡ true
-unfolding all
-all-weaken p q w [] h = refl
-all-weaken p q w (x ∷ xs) h =
-    let (hx, hs) = and-eq-true-iff (p x) (all p xs) .0 h in
-    rw (w x hx, all-weaken p q w xs hs)
+  pub all-weaken : (p q : A → Bool) → ((x : A) → p x ≡ true → q x ≡ true) → (xs : List A) → all p xs ≡ true → all q xs ≡ true
+  unfolding all
+  all-weaken p q w [] h = refl
+  all-weaken p q w (x ∷ xs) h =
+      let (hx, hs) = and-eq-true-iff (p x) (all p xs) .0 h in
+      rw (w x hx, all-weaken p q w xs hs)
 
-pub all-take : (p : ℕ → Bool) (k : ℕ) (xs : List ℕ) → all p xs ≡ true → all p (take k xs) ≡ true
-unfolding all
-all-take p zero xs h = refl
-all-take p (suc k) [] h = refl
-all-take p (suc k) (x ∷ xs) h =
-    let (hx, hs) = and-eq-true-iff (p x) (all p xs) .0 h in
-    rw (hx, all-take p k xs hs)
+  pub all-take : (p : A → Bool) (k : ℕ) (xs : List A) → all p xs ≡ true → all p (take k xs) ≡ true
+  unfolding all
+  all-take p zero xs h = refl
+  all-take p (suc k) [] h = refl
+  all-take p (suc k) (x ∷ xs) h =
+      let (hx, hs) = and-eq-true-iff (p x) (all p xs) .0 h in
+      rw (hx, all-take p k xs hs)
 
-pub all-drop : (p : ℕ → Bool) (k : ℕ) (xs : List ℕ) → all p xs ≡ true → all p (drop k xs) ≡ true
-unfolding all
-all-drop p zero xs h = h
-all-drop p (suc k) [] h = refl
-all-drop p (suc k) (x ∷ xs) h = all-drop p k xs (and-eq-true-iff (p x) (all p xs) .0 h .1)
+  pub all-drop : (p : A → Bool) (k : ℕ) (xs : List A) → all p xs ≡ true → all p (drop k xs) ≡ true
+  unfolding all
+  all-drop p zero xs h = h
+  all-drop p (suc k) [] h = refl
+  all-drop p (suc k) (x ∷ xs) h = all-drop p k xs (and-eq-true-iff (p x) (all p xs) .0 h .1)
+
+  -- the item at each place passes, whatever stands for one that is not there
+  pub all-at : (p : A → Bool) (xs : List A) → all p xs ≡ true → (i : ℕ) (d : A) → i < length xs → p (getD xs i d) ≡ true
+  unfolding all
+  all-at p [] h i d l = absurd (omega arith)
+  all-at p (x ∷ xs) h zero d l = and-left (p x) _ h
+  all-at p (x ∷ xs) h (suc i) d l = all-at p xs (and-right (p x) _ h) i d (omega arith)
+
+  pub all-of : (p : A → Bool) (xs : List A) (d : A) → ((i : ℕ) → i < length xs → p (getD xs i d) ≡ true) → all p xs ≡ true
+  unfolding all
+  all-of p [] d h = refl
+  all-of p (x ∷ xs) d h = and-intro (h 0 (omega arith)) (all-of p xs d (λ i l. h (suc i) (omega arith)))
 
 pub all-held : (l : ℕ) (xs : List ℕ) → all (between 0 l) xs ≡ all (heldIn l) xs
 all-held l = all-cong (between 0 l) (heldIn l) (λ x. rw leb·zero)

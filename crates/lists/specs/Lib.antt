@@ -1,6 +1,5 @@
--- What several crates say of lists and tests: ways to go by cases, a test of every item, membership and the last item, rising lists, a list
--- with one item replaced, a list written over another, the first cells of a row, and the refusals of a call in
--- order.
+-- What several crates say of lists and tests: ways to go by cases, a test of every item, membership and the last item, rising lists, the
+-- items by their place, a list written over another, the first cells of a row, and the refusals of a call in order.
 pub mod Cases
 pub mod All
 pub mod Elem

@@ -1,11 +1,21 @@
--- A list with one item replaced: what holds at each place, and what a map makes of it.
+-- The items of a list by their place: whatever stands for one that is not there, and with one item replaced.
 use Prim.Native.Nat.{ℕ, zero, suc, _<_}
+use native.Mathlib.Omega.{arith}
 use mathlib.Core.Path.{_≡_, refl, ap, subst⁻¹}
 use mathlib.Core.Logic.{⊎-elim}
 use mathlib.Core.List.{List, [], _∷_, map}
 use lib.ListN.{length, getD, set}
 use lib.Seq.{getD-set-same, getD-set-other}
 use Rattle.lists.specs.Cases.{eq-or-ne}
+
+-- an item that is there, whatever stands for one that is not
+pub getD-any : {A : Type 0} (l : List A) (i : ℕ) (d e : A) → i < length l → getD l i d ≡ getD l i e
+getD-any [] i d e h = absurd (omega arith)
+getD-any (x ∷ l) zero d e h = refl
+getD-any (x ∷ l) (suc i) d e h = getD-any l i d e (omega arith)
+
+-- ------------------------------------------------------------------------
+-- one item replaced
 
 -- what holds of the new item at its place, and at place k of the old list where k is another place, holds at place k of the new list
 pub getD-set-each : {A : Type 0} (P : ℕ → A → Type 0) (l : List A) (i k : ℕ) (a d : A) → i < length l → P i a →

@@ -1,4 +1,4 @@
--- Laws of the list of windows that a player shows: the first n of its windows, a test of every window, a rule at every window.
+-- Laws of the list of windows that a player shows: the first n of its windows, and a rule at every window.
 use Prim.Native.Nat.{ℕ, zero, suc, _+_, _≤_, _<_}
 use native.Mathlib.Nat.{le-refl, le-of-suc-le-suc, not-suc-le-zero}
 use native.Mathlib.Numerals.{add-one}
@@ -8,18 +8,12 @@ use mathlib.Core.Bool.{Bool, true, _&&_}
 use lib.ListN.{length, take, drop, getD, set, drop-of-length-le}
 use lib.Seq.{drop-cons, take-suc-set, drop-set-lt, append-snoc, take-all}
 use Rattle.lists.specs.Cases.{and-left, and-right}
+use Rattle.lists.specs.All.{all}
 use Rattle.window.specs.declared.Window.{Window}
 use Rattle.rules.specs.View.{WindowView, noWindow}
 use Rattle.window.specs.View.{viewOf}
 use Rattle.player.specs.View.{firstWindows}
-use Rattle.rules.specs.Shape.{allWindows}
 use Rattle.rules.specs.Rules.{mapWindows}
-
--- an element of a list, whatever stands for one that is not there
-pub getD-any : {A : Type 0} (l : List A) (i : ℕ) (d e : A) → i < length l → getD l i d ≡ getD l i e
-getD-any [] i d e h = absurd (not-suc-le-zero h)
-getD-any (x ∷ l) zero d e h = refl
-getD-any (x ∷ l) (suc i) d e h = getD-any l i d e (le-of-suc-le-suc h)
 
 -- ------------------------------------------------------------------------
 -- firstWindows
@@ -55,22 +49,12 @@ firstWindows-drop n ws w d l h =
 pub firstWindows-end : (n : ℕ) (ws : List Window) (w : ℕ) → n ≤ w → drop w (firstWindows n ws) ≡ []
 firstWindows-end n ws w h = drop-of-length-le (firstWindows n ws) {i = w} (rw firstWindows-length h)
 
--- ------------------------------------------------------------------------
--- allWindows
-
-pub allWindows-at : (p : WindowView → Bool) (vs : List WindowView) → allWindows p vs ≡ true → (w : ℕ) (e : WindowView) → w < length vs →
-    p (getD vs w e) ≡ true
-unfolding allWindows
-allWindows-at p [] h w e l = absurd (not-suc-le-zero l)
-allWindows-at p (v ∷ vs) h zero e l = and-left (p v) _ h
-allWindows-at p (v ∷ vs) h (suc w) e l = allWindows-at p vs (and-right (p v) _ h) w e (le-of-suc-le-suc l)
-
--- the test of the windows from w on: window w's, and that of those after it
-pub allWindows-drop : (p : WindowView → Bool) (n w : ℕ) (ws : List Window) (d : Window) (b : Bool) →
+-- a test of the windows from w on: window w's, and that of those after it
+pub firstWindows-all : (p : WindowView → Bool) (n w : ℕ) (ws : List Window) (d : Window) (b : Bool) →
     w < n → n ≤ length ws → b ≡ p (viewOf (getD ws w d)) →
-    allWindows p (drop w (firstWindows n ws)) ≡ (b && allWindows p (drop (w + 1) (firstWindows n ws)))
-unfolding allWindows
-allWindows-drop p n w ws d b l h e = rw (firstWindows-drop n ws w d l h, e)
+    all p (drop w (firstWindows n ws)) ≡ (b && all p (drop (w + 1) (firstWindows n ws)))
+unfolding all
+firstWindows-all p n w ws d b l h e = rw (firstWindows-drop n ws w d l h, e)
 
 -- ------------------------------------------------------------------------
 -- mapWindows
@@ -78,8 +62,8 @@ allWindows-drop p n w ws d b l h e = rw (firstWindows-drop n ws w d l h, e)
 -- two rules that agree at every window that passes a test
 pub mapWindows-same : (p : WindowView → Bool) (f g : ℕ → WindowView → WindowView) →
     ((w : ℕ) (v : WindowView) → p v ≡ true → f w v ≡ g w v) →
-    (w : ℕ) (vs : List WindowView) → allWindows p vs ≡ true → mapWindows f w vs ≡ mapWindows g w vs
-unfolding mapWindows allWindows
+    (w : ℕ) (vs : List WindowView) → all p vs ≡ true → mapWindows f w vs ≡ mapWindows g w vs
+unfolding mapWindows all
 mapWindows-same p f g e w [] h = refl
 mapWindows-same p f g e w (v ∷ vs) h =
     ap₂ _∷_ (e w v (and-left (p v) _ h)) (mapWindows-same p f g e (suc w) vs (and-right (p v) _ h))

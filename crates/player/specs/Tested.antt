@@ -1,6 +1,6 @@
 -- The shape of a player as code tests it: its numbers and the journal, then one window after another.
 use Prim.Native.Nat.{ℕ, _+_, _≤_, _<_}
-use mathlib.Core.Path.{_≡_, refl, sym, _∙_}
+use mathlib.Core.Path.{_≡_, _∙_}
 use mathlib.Core.List.{List}
 use mathlib.Core.Bool.{Bool, true, false, _&&_, and-assoc}
 use borrow.Author.Tests.{leb-true}
@@ -8,14 +8,15 @@ use lib.ListN.{length, drop, getD}
 use lib.Dec.{leb}
 use Rattle.journal.specs.Entry.{inShape, countOf}
 use Rattle.lists.specs.Cases.{and-left, and-right}
+use Rattle.lists.specs.All.{all}
 use Rattle.window.specs.declared.Window.{Window}
 use Rattle.window.specs.View.{viewOf}
-use Rattle.rules.specs.Shape.{countFits, limitFits, windowShape, allWindows, shape}
+use Rattle.rules.specs.Shape.{countFits, limitFits, windowShape, shape}
 use Rattle.player.specs.declared.Player.{Player}
 use Rattle.player.specs.View.{firstWindows, playerOf}
 use Rattle.player.specs.Promise.{numbersFit}
 use Rattle.player.specs.InShape.{inShape-entries}
-use Rattle.player.specs.FirstWindows.{firstWindows-length, firstWindows-end, allWindows-drop}
+use Rattle.player.specs.FirstWindows.{firstWindows-length, firstWindows-end, firstWindows-all}
 
 -- the numbers of a player that code holds
 abbrev fitNumbers : List ℕ → Player → Bool
@@ -23,7 +24,7 @@ fitNumbers ns p = numbersFit ns (p .count) (p .limit) (p .current .0)
 
 -- the windows from a place on are in shape
 abbrev fitFrom : List ℕ → Player → ℕ → Bool
-fitFrom ns p at = allWindows (windowShape (countOf ns) (p .current .0)) (drop at (firstWindows (p .count) (p .windows)))
+fitFrom ns p at = all (windowShape (countOf ns) (p .current .0)) (drop at (firstWindows (p .count) (p .windows)))
 
 -- what is known where the numbers fit and the windows before a place are in shape
 pub record Tested (ns : List ℕ) (p : Player) (at : ℕ) : Type 0 where
@@ -55,7 +56,7 @@ module _ (ns : List ℕ) (p : Player) where
 module _ {ns : List ℕ} {p : Player} {at : ℕ} {l : ℕ} {b : Bool} (t : Tested ns p at) (i : at < p .count) (e : l ≡ countOf ns)
     (d : Window) (s : b ≡ windowShape l (p .current .0) (viewOf (getD (p .windows) at d))) where
   next : shape ns (playerOf p) ≡ (b && fitFrom ns p (at + 1))
-  next = t .rest ∙ allWindows-drop _ _ _ _ d b i (rw (t .long) (t .few)) (rw e at s)
+  next = t .rest ∙ firstWindows-all _ _ _ _ d b i (rw (t .long) (t .few)) (rw e at s)
 
   pub tested-out : b ≡ false → shape ns (playerOf p) ≡ false
   tested-out h = rw (next, h)
@@ -64,5 +65,5 @@ module _ {ns : List ℕ} {p : Player} {at : ℕ} {l : ℕ} {b : Bool} (t : Teste
   tested-more h = record { long = t .long; few = t .few; entries = t .entries; rest = rw (next, h) }
 
 pub tested-all : {ns : List ℕ} {p : Player} {at : ℕ} → Tested ns p at → p .count ≤ at → shape ns (playerOf p) ≡ true
-unfolding allWindows
+unfolding all
 tested-all t h = rw (t .rest, firstWindows-end _ _ _ h)

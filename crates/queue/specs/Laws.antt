@@ -1,19 +1,18 @@
--- Laws of the first n cells, of the lists that the operations make, of a test of every item, and of a search.
+-- Laws of the first n cells, of the lists that the operations make, and of a search.
 use Prim.Native.Nat.{ℕ, zero, suc, _+_, _-_, _≤_, _<_, zero-le}
 use native.Mathlib.Nat.{le-of-suc-le-suc, not-suc-le-zero, suc-sub-suc, sub-zero, zero-sub}
 use native.Mathlib.Numerals.{add-one}
 use native.Mathlib.Omega.{arith}
 use mathlib.Core.Path.{_≡_, refl, sym, ap}
 use mathlib.Core.List.{List, [], _∷_, _++_}
-use mathlib.Core.Bool.{Bool, true, false, _&&_, and-assoc, and-eq-true-iff}
+use mathlib.Core.Bool.{Bool, true, false}
 use lib.ListN.{length, take, drop, getD, set, List·getD-eq-default, drop-of-length-le}
 use lib.Seq.{drop-cons, drop-nil}
-use lib.Dec.{leb, eqb, leb·zero}
+use lib.Dec.{leb, eqb}
 use borrow.Author.Tests.{lt-ltb, le-ltb, le-leb, lt-leb, eqb-true, eqb-false}
 use Rattle.queue.specs.declared.Found.the-variants.{At}
 use Rattle.queue.specs.Items.{itemsOf, batchesOf, freshQueue, freshBatches, pushed, skipped, findFrom}
 use Rattle.lists.specs.Cells.{front, front-length, front-push}
-use Rattle.lists.specs.All.{all, between, heldIn}
 
 -- front
 

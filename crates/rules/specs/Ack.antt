@@ -1,33 +1,56 @@
--- The laws of Ack: the batches that it strikes off, what it does at one window, and the rule.
+-- The laws of Ack: its refusals, the batches that it strikes off, what it does at one window, and the rule.
 use Prim.Native.Nat.{ℕ, suc, _≤_, _<_}
 use mathlib.Core.Path.{_≡_, refl, _∙_}
-use mathlib.Core.List.{List, [], _∷_}
+use mathlib.Core.List.{List, [], _∷_, _++_}
 use mathlib.Core.Bool.{Bool, true, false, not, cond}
 use native.Mathlib.Omega.{arith}
 use borrow.Author.Tests.{leb-true, lt-ltb, eq-eqb, not-false}
 use lib.ListN.{length}
 use lib.Dec.{eqb}
-use Rattle.lists.specs.Cases.{and-right}
+use Rattle.lists.specs.Cases.{and-right, or-left, or-right}
 use Rattle.lists.specs.Elem.{elem}
 use Rattle.lists.specs.All.{all, heldIn, all-elem}
+use Rattle.lists.specs.Refusal.{_when_, firstOf}
 use Rattle.rules.specs.declared.Term.{Term}
 use Rattle.rules.specs.View.{WindowView, PlayerView}
 use Rattle.rules.specs.Shape.{shape}
 use Rattle.rules.specs.Window.{isSuspended, otherTerm, struck, acknowledged, ackAt}
 use Rattle.rules.specs.Rules.{windowAt, ackRule}
-use Rattle.rules.specs.Refusals.{ackRule-refusals}
+use Rattle.rules.specs.Refusals.{outOfShape, noSuchWindow, check-answer, operate-answer}
 use Rattle.rules.specs.Checks.{Decides, done-decides, check-decides, otherTerm-same, otherTerm-own}
 use Rattle.rules.specs.Shaped.{WindowShaped}
 use Rattle.rules.specs.Parts.{normalQueued, catchQueued, conditionShaped, here-shaped}
 use Rattle.rules.specs.Operate.{Operated, Lawful, decides-lawful, Effect, LawfulRule, operate-lawful}
 
 -- ------------------------------------------------------------------------
+-- the refusals in document 01's order
+
+-- A result to be read: 1; 2; 3; 5; 11: no unacknowledged batch ends at that index
+pub ackRule-refusals : (ns : List ℕ) (w : ℕ) (t : Term) (i : ℕ) (p : PlayerView) →
+    let v : WindowView = windowAt w p in
+    ackRule ns w t i p .answer ≡ firstOf
+    (1 when outOfShape ns p
+    ∷ 2 when noSuchWindow w p
+    ∷ 3 when isSuspended (v .condition)
+    ∷ 5 when otherTerm t v
+    ∷ 11 when not (elem i (v .batches))
+    ∷ [])
+unfolding ackRule ackAt
+ackRule-refusals ns w t i p = operate-answer ns w _ p _ (λ s. simp check-answer)
+
+-- ------------------------------------------------------------------------
 -- the batches struck off
 
--- the oldest batch is struck off by its own index
-pub struck-front : (i : ℕ) (xs : List ℕ) → struck i (i ∷ xs) ≡ xs
+-- A result to be read: the oldest batch that ends at the index and all older ones are struck off, and no newer one
+pub struck-older : (i : ℕ) (older newer : List ℕ) → elem i older ≡ false → struck i (older ++ (i ∷ newer)) ≡ newer
 unfolding struck
-struck-front i xs = simp (eq-eqb i i refl)
+struck-older i [] newer none = simp (eq-eqb i i refl)
+struck-older i (x ∷ older) newer none =
+    simp (or-left (eqb i x) _ none) (struck-older i older newer (or-right (eqb i x) _ none))
+
+-- the oldest of all by its own index
+pub struck-front : (i : ℕ) (xs : List ℕ) → struck i (i ∷ xs) ≡ xs
+struck-front i xs = struck-older i [] xs refl
 
 struck-length : (i : ℕ) (xs : List ℕ) → length (struck i xs) ≤ length xs
 unfolding struck
@@ -48,8 +71,8 @@ all-struck p i (x ∷ xs) a = go (eqb i x) (all-struck p i xs (and-right (p x) _
     go false h = h
 
 -- the window stays in shape
-acknowledged-shaped : {l c : ℕ} (i : ℕ) (v : WindowView) → WindowShaped l c v → isSuspended (v .condition) ≡ false → elem i (v .batches) ≡ true →
-    WindowShaped l c (acknowledged i v)
+acknowledged-shaped : {l c : ℕ} (i : ℕ) (v : WindowView) → WindowShaped l c v → isSuspended (v .condition) ≡ false →
+    elem i (v .batches) ≡ true → WindowShaped l c (acknowledged i v)
 acknowledged-shaped {l} i v s here out =
     here-shaped (normalQueued s) (catchQueued s)
     (record {

@@ -16,7 +16,8 @@ use Rattle.rules.specs.Shape.{shape}
 use Rattle.rules.specs.Shaped.{Shaped, shaped, shape-of}
 use Rattle.rules.specs.Parts.{wider-shaped}
 
-pub append-shaped : (ns : List ℕ) (e : Entry) (p : PlayerView) → shape ns p ≡ true → countOf ns < 65535 → shape (ns ++ numbersOf (e ∷ [])) p ≡ true
+pub append-shaped : (ns : List ℕ) (e : Entry) (p : PlayerView) → shape ns p ≡ true → countOf ns < 65535 →
+    shape (ns ++ numbersOf (e ∷ [])) p ≡ true
 append-shaped ns e p s room =
     let f : Shaped ns p = shaped ns p s in
     let longer : List ℕ = ns ++ numbersOf (e ∷ []) in

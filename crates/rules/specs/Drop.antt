@@ -1,16 +1,31 @@
--- The laws of Drop: what it does at one window, and the rule.
+-- The laws of Drop: its refusals, what it does at one window, and the rule.
 use Prim.Native.Nat.{ℕ}
 use mathlib.Core.Path.{_≡_, refl}
 use mathlib.Core.List.{List, [], _∷_}
 use mathlib.Core.Bool.{false}
 use native.Mathlib.Omega.{arith}
 use Rattle.lists.specs.All.{all}
+use Rattle.lists.specs.Refusal.{_when_, firstOf}
 use Rattle.rules.specs.View.{WindowView, PlayerView}
 use Rattle.rules.specs.Window.{isSuspended, dropped, dropAt}
-use Rattle.rules.specs.Rules.{dropRule}
+use Rattle.rules.specs.Rules.{dropRule, windowAt}
+use Rattle.rules.specs.Refusals.{outOfShape, noSuchWindow, check-answer, operate-answer}
 use Rattle.rules.specs.Checks.{Decides, done-decides, check-decides}
 use Rattle.rules.specs.Shaped.{WindowShaped}
 use Rattle.rules.specs.Operate.{Lawful, decides-lawful, Effect, LawfulRule, operate-lawful}
+
+-- ------------------------------------------------------------------------
+-- the refusals in document 01's order
+
+-- A result to be read: 1; 2; 3
+pub dropRule-refusals : (ns : List ℕ) (w : ℕ) (p : PlayerView) →
+    dropRule ns w p .answer ≡ firstOf
+    (1 when outOfShape ns p
+    ∷ 2 when noSuchWindow w p
+    ∷ 3 when isSuspended (windowAt w p .condition)
+    ∷ [])
+unfolding dropRule dropAt
+dropRule-refusals ns w p = operate-answer ns w _ p _ (λ s. simp check-answer)
 
 -- ------------------------------------------------------------------------
 -- at one window

@@ -1,4 +1,4 @@
--- The laws of Join: what it does at one window, and the rule.
+-- The laws of Join: its refusals, what it does at one window, and the rule.
 use Prim.Native.Nat.{ℕ, _+_, _≤_, _<_}
 use mathlib.Core.Path.{_≡_, refl, sym, ap, _∙_}
 use mathlib.Core.List.{List, [], _∷_}
@@ -9,23 +9,46 @@ use lib.ListN.{length}
 use lib.Dec.{ltb, eqb}
 use Rattle.journal.specs.declared.Entry.{Entry}
 use Rattle.lists.specs.Cases.{and-left, and-right, or-left, or-right, not-or}
+use Rattle.lists.specs.Refusal.{_when_, firstOf}
 use Rattle.journal.specs.Entry.{entriesOf, isFor}
 use Rattle.rules.specs.View.{Condition, normal, fetching, completed, suspended, WindowView, PlayerView}
 use Rattle.rules.specs.Shape.{isEmpty, suspendedFits, shape}
 use Rattle.rules.specs.Window.{isSuspended, isReport, joined, joinAt}
 use Rattle.rules.specs.Rules.{windowAt, joinRule}
-use Rattle.rules.specs.Refusals.{joinRule-refusals}
+use Rattle.rules.specs.Refusals.{outOfShape, noSuchWindow, check-answer, operate-answer}
 use Rattle.rules.specs.Checks.{Decides, done-decides, check-decides}
 use Rattle.rules.specs.Shaped.{WindowShaped}
 use Rattle.rules.specs.Parts.{normalQueued, catchQueued, ConditionShaped, normal-shaped, fetching-shaped, here-shaped}
 use Rattle.rules.specs.Operate.{Operated, Lawful, decides-lawful, Effect, LawfulRule, operate-lawful}
 
 -- ------------------------------------------------------------------------
+-- the refusals in document 01's order
+
+-- 13: the report is below acknowledged, above sent, or not 0 and not the index of an entry for this window
+abbrev pub badReport : List Entry → ℕ → ℕ → WindowView → Bool
+badReport j w r v = ltb r (v .acked) || (ltb (v .sent) r || (not (eqb r 0) && not (isFor j w r)))
+
+-- A result to be read: 1; 2; 12: not Suspended; 14: term is 4,294,967,295; 13
+pub joinRule-refusals : (ns : List ℕ) (w r : ℕ) (p : PlayerView) →
+    let v : WindowView = windowAt w p in
+    joinRule ns w r p .answer ≡ firstOf
+    (1 when outOfShape ns p
+    ∷ 2 when noSuchWindow w p
+    ∷ 12 when not (isSuspended (v .condition))
+    ∷ 14 when eqb (v .term .0) 4294967295
+    ∷ 13 when badReport (entriesOf ns) w r v
+    ∷ [])
+unfolding joinRule joinAt
+joinRule-refusals ns w r p = operate-answer ns w _ p _ (λ s. simp (check-answer, not-or))
+
+-- ------------------------------------------------------------------------
 -- at one window
 
 joinAt-decides : (j : List Entry) (w current r : ℕ) (v : WindowView) →
     Decides
-    (not (isSuspended (v .condition)) ∷ eqb (v .term .0) 4294967295 ∷ (ltb r (v .acked) || (ltb (v .sent) r || not (isReport j w r))) ∷ []) v
+    (not (isSuspended (v .condition))
+    ∷ eqb (v .term .0) 4294967295
+    ∷ (ltb r (v .acked) || (ltb (v .sent) r || not (isReport j w r))) ∷ []) v
     (joined current r v) (joinAt j w current r v)
 unfolding joinAt
 joinAt-decides j w current r v = check-decides 11 (check-decides 13 (check-decides 12 (done-decides v _)))
@@ -83,7 +106,8 @@ unfolding joinRule
 joinRule-lawful ns w r p = operate-lawful ns w _ p _ (joinAt-lawful _ (entriesOf ns) w r _)
 
 pub joinRule-done : (ns : List ℕ) (w r : ℕ) (p : PlayerView) → joinRule ns w r p .answer ≡ 0 →
-    Operated ns w p (joinRule ns w r p) (JoinedOn (entriesOf ns) w (p .current) r (windowAt w p)) (λ c. joined (p .current) r (windowAt w p))
+    Operated ns w p (joinRule ns w r p) (JoinedOn (entriesOf ns) w (p .current) r (windowAt w p))
+    (λ c. joined (p .current) r (windowAt w p))
 joinRule-done ns w r p = joinRule-lawful ns w r p .does
 
 -- a Suspended window takes a report of its own, from acknowledged to sent, while its term can go up

@@ -11,6 +11,7 @@ pub mod Parts
 pub mod Operate
 pub mod Main
 pub mod Catch
+pub mod Batch
 pub mod Send
 pub mod Written
 pub mod Ack

@@ -64,7 +64,8 @@ module _ (ns : List ℕ) (w : ℕ) (f : WindowView → Turn) (p : PlayerView) wh
   operate-limit = operate-cases (λ o. o .next .limit ≡ p .limit) refl refl (λ s h. refl)
 
   -- in shape and at a window that is there, the window's rule decides
-  pub operate-can : (v′ : WindowView) → shape ns p ≡ true → w < length (p .windows) → f (windowAt w p) ≡ done v′ → operate ns w f p .answer ≡ 0
+  pub operate-can : (v′ : WindowView) → shape ns p ≡ true → w < length (p .windows) → f (windowAt w p) ≡ done v′ →
+      operate ns w f p .answer ≡ 0
   unfolding operate
   operate-can v′ s h e = simp (s, lt-ltb w (length (p .windows)) h) (ap (λ t. t .answer) e)
 
@@ -82,7 +83,8 @@ withWindow-shaped ns p s w v l h =
       limitMost = f .limitMost;
       journal = f .journal;
       currentIn = f .currentIn;
-      windows = λ u k. getD-set-each (λ u. WindowShaped (countOf ns) (p .current)) (p .windows) w u v noWindow l h (λ other. f .windows u (rw n at k));
+      windows = λ u k.
+          getD-set-each (λ u. WindowShaped (countOf ns) (p .current)) (p .windows) w u v noWindow l h (λ other. f .windows u (rw n at k));
     })
 
 -- ------------------------------------------------------------------------
@@ -115,7 +117,8 @@ pub record LawfulRule (ns : List ℕ) (w : ℕ) (p : PlayerView) (o : Outcome) (
   pub shaped : shape ns p ≡ true → shape ns (o .next) ≡ true
 
 pub operate-lawful : (ns : List ℕ) (w : ℕ) (f : WindowView → Turn) (p : PlayerView) (x : Effect) →
-    Lawful (p .current) (windowAt w p) (f (windowAt w p)) (x .tells (entriesOf ns) (windowAt w p)) (x .makes (entriesOf ns) (windowAt w p)) →
+    Lawful (p .current) (windowAt w p) (f (windowAt w p)) (x .tells (entriesOf ns) (windowAt w p))
+    (x .makes (entriesOf ns) (windowAt w p)) →
     LawfulRule ns w p (operate ns w f p) x
 operate-lawful ns w f p x law =
     record {

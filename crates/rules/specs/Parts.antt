@@ -107,8 +107,8 @@ suspendedFits-here v (completed e) h = refl
 suspendedFits-here v suspended h = absurd (true≢false h)
 
 -- a window other than Suspended is in shape part by part
-pub here-shaped : {l c : ℕ} {v : WindowView} → Queued l (v .normalQueue) → Queued l (v .catchQueue) → Lined l (v .acked) (v .sent) (v .batches) →
-    ConditionShaped l c (v .condition) (v .catchQueue) → WindowShaped l c v
+pub here-shaped : {l c : ℕ} {v : WindowView} → Queued l (v .normalQueue) → Queued l (v .catchQueue) →
+    Lined l (v .acked) (v .sent) (v .batches) → ConditionShaped l c (v .condition) (v .catchQueue) → WindowShaped l c v
 here-shaped {v = v} n q h s =
     record {
       normalFits = n .fits;

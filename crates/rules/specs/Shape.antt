@@ -71,15 +71,13 @@ windowShape l current v =
     lengthsFit v
     && (queuedFit l v
     && (heldFit l v
-    && (nextFits (v .condition) && (endFits current (v .condition) && (catchUpFits (v .condition) (v .catchQueue) && suspendedFits v (v .condition))))))
-
-unfoldable pub allWindows : (WindowView → Bool) → List WindowView → Bool
-allWindows p [] = true
-allWindows p (v ∷ vs) = p v && allWindows p vs
+    && (nextFits (v .condition)
+    && (endFits current (v .condition)
+    && (catchUpFits (v .condition) (v .catchQueue) && suspendedFits v (v .condition))))))
 
 -- the whole state, with the journal as numbers
 unfoldable pub shape : List ℕ → PlayerView → Bool
 shape ns p =
     countFits (length (p .windows))
     && (limitFits (p .limit)
-    && (inShape ns && (leb (p .current) (countOf ns) && allWindows (windowShape (countOf ns) (p .current)) (p .windows))))
+    && (inShape ns && (leb (p .current) (countOf ns) && all (windowShape (countOf ns) (p .current)) (p .windows))))

@@ -1,17 +1,16 @@
 -- The shape's clauses as facts.
-use Prim.Native.Nat.{ℕ, zero, suc, _≤_, _<_}
-use mathlib.Core.Path.{_≡_, refl}
-use mathlib.Core.List.{List, [], _∷_}
-use mathlib.Core.Bool.{Bool, true}
-use native.Mathlib.Omega.{arith}
+use Prim.Native.Nat.{ℕ, _≤_, _<_}
+use mathlib.Core.Path.{_≡_}
+use mathlib.Core.List.{List}
+use mathlib.Core.Bool.{true}
 use borrow.Author.Tests.{leb-true, le-leb}
-use lib.ListN.{length, getD}
+use lib.ListN.{length}
 use lib.Dec.{leb}
 use Rattle.lists.specs.Cases.{and-left, and-right, and-intro}
 use Rattle.journal.specs.Entry.{inShape, countOf}
-use Rattle.lists.specs.All.{all, queuedIn, heldIn}
+use Rattle.lists.specs.All.{all, queuedIn, heldIn, all-at, all-of}
 use Rattle.rules.specs.View.{WindowView, PlayerView, noWindow}
-use Rattle.rules.specs.Shape.{lengthsFit, queuedFit, heldFit, countFits, limitFits, conditionHeld, nextFits, endFits, catchUpFits, suspendedFits, windowShape, allWindows, shape}
+use Rattle.rules.specs.Shape.{lengthsFit, queuedFit, heldFit, countFits, limitFits, conditionHeld, nextFits, endFits, catchUpFits, suspendedFits, windowShape, shape}
 use Rattle.rules.specs.Rules.{windowAt}
 
 -- ------------------------------------------------------------------------
@@ -72,20 +71,6 @@ windowShape-of l current v s =
     (and-intro (s .next) (and-intro (s .end) (and-intro (s .catchUp) (s .away))))))
 
 -- ------------------------------------------------------------------------
--- allWindows
-
-pub allWindows-at : (q : WindowView → Bool) (vs : List WindowView) → allWindows q vs ≡ true → (w : ℕ) → w < length vs → q (getD vs w noWindow) ≡ true
-unfolding allWindows
-allWindows-at q [] e w h = absurd (omega arith)
-allWindows-at q (v ∷ vs) e zero h = and-left (q v) _ e
-allWindows-at q (v ∷ vs) e (suc w) h = allWindows-at q vs (and-right (q v) _ e) w (omega arith)
-
-pub allWindows-of : (q : WindowView → Bool) (vs : List WindowView) → ((w : ℕ) → w < length vs → q (getD vs w noWindow) ≡ true) → allWindows q vs ≡ true
-unfolding allWindows
-allWindows-of q [] h = refl
-allWindows-of q (v ∷ vs) h = and-intro (h 0 (omega arith)) (allWindows-of q vs (λ w l. h (suc w) (omega arith)))
-
--- ------------------------------------------------------------------------
 -- shape
 
 -- a state in shape, with the journal as numbers
@@ -114,7 +99,7 @@ shaped ns p e =
       limitMost = leb-true _ _ (and-right (leb 1 (p .limit)) _ b);
       journal = and-left (inShape ns) _ e₂;
       currentIn = leb-true _ _ (and-left (leb (p .current) (countOf ns)) _ e₃);
-      windows = λ w h. windowShaped _ _ _ (allWindows-at _ (p .windows) e₄ w h);
+      windows = λ w h. windowShaped _ _ _ (all-at _ (p .windows) e₄ w noWindow h);
     }
 
 pub shape-of : (ns : List ℕ) (p : PlayerView) → Shaped ns p → shape ns p ≡ true
@@ -123,4 +108,4 @@ shape-of ns p s =
     and-intro (and-intro (le-leb _ _ (s .some)) (le-leb _ _ (s .most)))
     (and-intro (and-intro (le-leb _ _ (s .limitSome)) (le-leb _ _ (s .limitMost)))
     (and-intro (s .journal)
-    (and-intro (le-leb _ _ (s .currentIn)) (allWindows-of _ (p .windows) (λ w h. windowShape-of _ _ _ (s .windows w h))))))
+    (and-intro (le-leb _ _ (s .currentIn)) (all-of _ (p .windows) noWindow (λ w h. windowShape-of _ _ _ (s .windows w h))))))

@@ -1,16 +1,17 @@
--- The laws of Start: the least report, a started window, and the rule.
+-- The laws of Start: its refusals, the least report, a started window, and the rule.
 use Prim.Native.Nat.{ℕ, zero, suc, _≤_, _<_}
 use mathlib.Core.Path.{_≡_, refl}
 use mathlib.Core.List.{List, [], _∷_, map}
-use mathlib.Core.Bool.{Bool, true, false, not, cond, _&&_}
+use mathlib.Core.Bool.{Bool, true, false, not, cond, _&&_, _||_}
 use native.Mathlib.Omega.{arith}
 use native.Mathlib.Nat.{min-le-left, min-le-right}
 use borrow.Author.Tests.{eqb-true, leb-true}
 use lib.ListN.{length, getD, length-map}
-use lib.Dec.{leb, eqb}
+use lib.Dec.{leb, eqb, ltb}
 use Rattle.journal.specs.declared.Entry.{Entry}
-use Rattle.lists.specs.Cases.{and-left, and-right}
-use Rattle.journal.specs.Entry.{inShape, countOf, entriesOf}
+use Rattle.lists.specs.Cases.{cond-ap, and-left, and-right, not-and, not-or, not-leb}
+use Rattle.lists.specs.Refusal.{_when_, firstOf}
+use Rattle.journal.specs.Entry.{inShape, countOf, entriesOf, isFor}
 use Rattle.journal.specs.EntryLaws.{entriesOf-length}
 use Rattle.lists.specs.All.{all}
 use Rattle.rules.specs.View.{PlayerView}
@@ -19,6 +20,33 @@ use Rattle.rules.specs.Window.{started}
 use Rattle.rules.specs.Rules.{Outcome, refuse, windowAt, isStartReport, areReports, least, startRule}
 use Rattle.rules.specs.Shaped.{WindowShaped, shape-of}
 use Rattle.rules.specs.Parts.{queued-none, normal-shaped, here-shaped}
+
+-- ------------------------------------------------------------------------
+-- the refusals in document 01's order
+
+-- 1: W, the batch limit or the journal outside its limits, or not exactly W reports
+abbrev pub startOutOfShape : List ℕ → ℕ → ℕ → List ℕ → Bool
+startOutOfShape ns count limit reports =
+    not (countFits count) || (not (limitFits limit) || (not (inShape ns) || not (eqb (length reports) count)))
+
+-- 13: some report is above L, or not 0 and not the index of an entry for its window; the first report is of window w
+abbrev pub someBadReport : List Entry → ℕ → List ℕ → Bool
+someBadReport j w [] = false
+someBadReport j w (r ∷ rs) = (ltb (length j) r || (not (eqb r 0) && not (isFor j w r))) || someBadReport j (suc w) rs
+
+someBadReport-is : (j : List Entry) (w : ℕ) (rs : List ℕ) → not (areReports j w rs) ≡ someBadReport j w rs
+unfolding areReports
+someBadReport-is j w [] = refl
+someBadReport-is j w (r ∷ rs) = simp (not-and, not-leb, not-or, someBadReport-is j (suc w) rs)
+
+-- A result to be read: 1, also if there are not exactly W reports; 13
+pub startRule-refusals : (ns : List ℕ) (count limit : ℕ) (reports : List ℕ) (p : PlayerView) →
+    startRule ns count limit reports p .answer ≡ firstOf
+    (1 when startOutOfShape ns count limit reports
+    ∷ 13 when someBadReport (entriesOf ns) 0 reports
+    ∷ [])
+unfolding startRule
+startRule-refusals ns count limit reports p = simp (cond-ap (λ (o : Outcome). o .answer), not-and, someBadReport-is)
 
 -- ------------------------------------------------------------------------
 -- least
@@ -59,7 +87,8 @@ started-shaped h =
 abbrev pub startNext : ℕ → List ℕ → PlayerView
 startNext limit reports = record { limit = limit; current = least reports; windows = map started reports }
 
-pub startNext-at : (limit : ℕ) (reports : List ℕ) (w : ℕ) → w < length reports → windowAt w (startNext limit reports) ≡ started (getD reports w 0)
+pub startNext-at : (limit : ℕ) (reports : List ℕ) (w : ℕ) → w < length reports →
+    windowAt w (startNext limit reports) ≡ started (getD reports w 0)
 startNext-at limit [] w h = absurd (omega arith)
 startNext-at limit (r ∷ rs) zero h = refl
 startNext-at limit (r ∷ rs) (suc w) h = startNext-at limit rs w (omega arith)
@@ -83,10 +112,12 @@ pub record StartDone (ns : List ℕ) (count limit : ℕ) (reports : List ℕ) (o
 
 module _ (ns : List ℕ) (count limit : ℕ) (reports : List ℕ) (p : PlayerView) where
   pub startRule-cases : (P : Outcome → Type 0) → P (refuse 1 p) → P (refuse 13 p) →
-      (Startable ns count limit reports → P (record { answer = 0; next = startNext limit reports })) → P (startRule ns count limit reports p)
+      (Startable ns count limit reports → P (record { answer = 0; next = startNext limit reports })) →
+      P (startRule ns count limit reports p)
   unfolding startRule
   startRule-cases P one thirteen done =
-      go (countFits count && (limitFits limit && (inShape ns && eqb (length reports) count))) refl (areReports (entriesOf ns) 0 reports) refl
+      go (countFits count && (limitFits limit && (inShape ns && eqb (length reports) count))) refl
+      (areReports (entriesOf ns) 0 reports) refl
     where
       go : (s : Bool) → (countFits count && (limitFits limit && (inShape ns && eqb (length reports) count))) ≡ s →
           (b : Bool) → areReports (entriesOf ns) 0 reports ≡ b →
@@ -109,7 +140,8 @@ module _ (ns : List ℕ) (count limit : ℕ) (reports : List ℕ) (p : PlayerVie
       go true s false b = thirteen
       go false s t b = one
 
-  pub startRule-done : startRule ns count limit reports p .answer ≡ 0 → StartDone ns count limit reports (startRule ns count limit reports p)
+  pub startRule-done : startRule ns count limit reports p .answer ≡ 0 →
+      StartDone ns count limit reports (startRule ns count limit reports p)
   startRule-done =
       startRule-cases (λ o. o .answer ≡ 0 → StartDone ns count limit reports o) (λ e. absurd (omega arith)) (λ e. absurd (omega arith))
       (λ g e. record { given = g; next = refl })

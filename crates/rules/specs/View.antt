@@ -1,5 +1,5 @@
--- Document 01, "Quantities": what the player holds, as the rules see it: lists, numbers and a condition. No cell past a length and no window
--- from W up is in a view, so that none can matter to a rule.
+-- Document 01, "Quantities": what the player holds, as the rules see it: lists, numbers and a condition. No cell past a length and no
+-- window from W up is in a view, so that none can matter to a rule.
 use Prim.Native.Nat.{ℕ}
 use mathlib.Core.List.{List, []}
 use mathlib.Core.Bool.{Bool, false}

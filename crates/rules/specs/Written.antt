@@ -1,19 +1,36 @@
--- The laws of Written: what it does at one window, and the rule.
+-- The laws of Written: its refusals, what it does at one window, and the rule.
 use Prim.Native.Nat.{ℕ, _<_}
 use mathlib.Core.Path.{_≡_, _∙_}
 use mathlib.Core.List.{List, [], _∷_}
 use mathlib.Core.Bool.{true, false, not}
 use borrow.Author.Tests.{lt-ltb, not-false}
 use lib.ListN.{length}
+use Rattle.lists.specs.Refusal.{_when_, firstOf}
 use Rattle.rules.specs.declared.Term.{Term}
 use Rattle.rules.specs.View.{WindowView, PlayerView}
 use Rattle.rules.specs.Shape.{shape}
 use Rattle.rules.specs.Window.{isSuspended, otherTerm, freed, writtenAt}
 use Rattle.rules.specs.Rules.{windowAt, writtenRule}
-use Rattle.rules.specs.Refusals.{writtenRule-refusals}
+use Rattle.rules.specs.Refusals.{outOfShape, noSuchWindow, check-answer, operate-answer}
 use Rattle.rules.specs.Checks.{Decides, done-decides, check-decides, otherTerm-same, otherTerm-own}
 use Rattle.rules.specs.Parts.{normalQueued, catchQueued, lined, conditionShaped, here-shaped}
 use Rattle.rules.specs.Operate.{Lawful, decides-lawful, Effect, LawfulRule, operate-lawful}
+
+-- ------------------------------------------------------------------------
+-- the refusals in document 01's order
+
+-- A result to be read: 1; 2; 3; 5; 8: line not busy
+pub writtenRule-refusals : (ns : List ℕ) (w : ℕ) (t : Term) (p : PlayerView) →
+    let v : WindowView = windowAt w p in
+    writtenRule ns w t p .answer ≡ firstOf
+    (1 when outOfShape ns p
+    ∷ 2 when noSuchWindow w p
+    ∷ 3 when isSuspended (v .condition)
+    ∷ 5 when otherTerm t v
+    ∷ 8 when not (v .busy)
+    ∷ [])
+unfolding writtenRule writtenAt
+writtenRule-refusals ns w t p = operate-answer ns w _ p _ (λ s. simp check-answer)
 
 -- ------------------------------------------------------------------------
 -- at one window

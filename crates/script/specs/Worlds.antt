@@ -20,12 +20,13 @@ use Rattle.rules.specs.View.{WindowView, PlayerView, noWindow}
 use Rattle.rules.specs.Rules.{windowAt, withWindow}
 use Rattle.player.specs.declared.Player.{Player}
 use Rattle.player.specs.View.{playerOf}
-use Rattle.player.specs.FirstWindows.{getD-any, firstWindows-length, firstWindows-at}
+use Rattle.player.specs.FirstWindows.{firstWindows-length, firstWindows-at}
 use Rattle.delivery.specs.World.{Side, World, noSide, sideAt, numbersIn, playerIn, withView, withPlayer, withSide}
 use Rattle.delivery.specs.Worlds.{withPlayer-window, withSide-here, withSide-twice}
 use Rattle.script.specs.declared.line.Line.{Line}
 use Rattle.script.specs.declared.Stage.{Stage}
 use Rattle.lists.specs.Cells.{front}
+use Rattle.lists.specs.Set.{getD-any}
 use Rattle.script.specs.Line.{sentIn, acksIn, freshLine}
 use Rattle.script.specs.Stage.{sideOf, sidesOf, worldOf, forget, forgotten, recordAt, lineAt}
 use Rattle.script.specs.Stored.{absent, present, slotIn, storedAt}

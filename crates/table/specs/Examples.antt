@@ -8,11 +8,11 @@ use lib.ListN.{replicate}
 use Rattle.journal.specs.Entry.{Placed, numbersOf, entriesOf, entryAt, hasWindow, isFor, entry4}
 use Rattle.lists.specs.All.{all}
 use Rattle.record.specs.Record.{newRecord, raceAfter, racesAfter, recordAfter, takeEntry, takeAll}
-use Rattle.record.specs.Laws.{raceAt}
+use Rattle.record.specs.Races.{raceAt}
 use Rattle.rules.specs.View.{normal, suspended, WindowView, PlayerView}
-use Rattle.rules.specs.Shape.{windowShape, allWindows, shape}
+use Rattle.rules.specs.Shape.{windowShape, shape}
 use Rattle.rules.specs.Window.{isReport}
-use Rattle.table.specs.States.{OneMore, EightOut, MoreReady, Away, OpenUntil}
+use Rattle.table.specs.States.{OneMore, EightOut, MoreReady, Away, CanTake, OpenUntil}
 
 -- ------------------------------------------------------------------------
 -- The player
@@ -72,7 +72,7 @@ gone acked sent = record {
 -- to unfold this is to unfold the definitions that the examples compute with
 examples : Unit {0}
 unfolding
-    countUp shape windowShape allWindows all numbersOf entriesOf entryAt hasWindow isFor
+    countUp shape windowShape all numbersOf entriesOf entryAt hasWindow isFor
     takeAll takeEntry recordAfter racesAfter raceAfter
 examples = tt
 
@@ -111,12 +111,19 @@ post index race second = record { index = index; entry = entry4 1 1 race second 
 abbrev pub close : ℕ → ℕ → Placed
 close index race = record { index = index; entry = entry4 1 3 race 0 }
 
--- a new record after a POST of 50,400 to race 1
-pub example-h : OpenUntil (takeAll (post 1 1 50400 ∷ []) newRecord) 1 50400
-unfolding examples
-example-h = record { named = refl; still = refl; second = refl }
+-- race 1 of a new record is open
+pub example-h : CanTake newRecord 1 1 × (raceAt newRecord 0 .closed ≡ false)
+example-h = (record { races = refl; room = omega arith; named = refl }, refl)
 
--- and then a CLOSE of race 1
-pub example-j : raceAt (takeAll (post 1 1 50400 ∷ close 2 1 ∷ []) newRecord) 0 .closed ≡ true
+-- a new record after a POST of 50,400 to race 1
+pub example-h-any : OpenUntil (takeAll (post 1 1 50400 ∷ []) newRecord) 1 50400
 unfolding examples
-example-j = refl
+example-h-any = record { named = refl; still = refl; second = refl }
+
+pub example-j : CanTake newRecord 1 2
+example-j = record { races = refl; room = omega arith; named = refl }
+
+-- and after a CLOSE of race 1 too
+pub example-j-any : raceAt (takeAll (post 1 1 50400 ∷ close 2 1 ∷ []) newRecord) 0 .closed ≡ true
+unfolding examples
+example-j-any = refl

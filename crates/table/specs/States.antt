@@ -1,7 +1,7 @@
 -- What the words of the proved table's rows say of a player and of a record, each with what a row needs of it.
-use Prim.Native.Nat.{ℕ, _+_, _-_, _≤_, _<_}
-use mathlib.Core.Path.{_≡_, ap, subst, _∙_}
-use mathlib.Core.List.{List}
+use Prim.Native.Nat.{ℕ, suc, _+_, _-_, _≤_, _<_}
+use mathlib.Core.Path.{_≡_, refl, ap, subst, _∙_}
+use mathlib.Core.List.{List, [], _∷_}
 use mathlib.Core.Bool.{true, false}
 use native.Mathlib.Omega.{arith}
 use native.Mathlib.Nat.{min-eq-left}
@@ -9,11 +9,13 @@ use borrow.Author.Tests.{lt-ltb}
 use lib.ListN.{length, length-take}
 use lib.Dec.{ltb}
 use Rattle.lists.specs.Cases.{and-intro}
-use Rattle.journal.specs.Entry.{entriesOf, isFor}
+use Rattle.lists.specs.All.{between-bounds}
+use Rattle.journal.specs.Entry.{Placed, entry4, isRace, isOff, entriesOf, isFor}
 use Rattle.journal.specs.EntryLaws.{entriesOf-length, isFor-within}
 use Rattle.record.specs.declared.Record.{Record}
-use Rattle.record.specs.Record.{isRace, mayStamp}
-use Rattle.record.specs.Laws.{raceAt, mayStamp-open}
+use Rattle.record.specs.Record.{takeEntry, takeNumbers, takeAll, mayStamp}
+use Rattle.record.specs.Races.{raceAt, ClosedAs}
+use Rattle.record.specs.Laws.{takeEntry-answers, takeEntry-close, takeEntry-closed, takeEntry-post, takeEntry-post-closed, takeNumbers-placed, takeAll-count, mayStamp-open, mayStamp-closed}
 use Rattle.rules.specs.View.{normal, suspended, PlayerView}
 use Rattle.rules.specs.Shape.{shape}
 use Rattle.rules.specs.Window.{isSuspended, wanted, mainAt, batchOf}
@@ -95,8 +97,14 @@ pub record Away (ns : List ℕ) (p : PlayerView) (w : ℕ) : Type 0 where
   pub term : windowAt w p .term .0 < 4294967295
 
 -- ------------------------------------------------------------------------
--- (h): the race is one of 1 to 12, open, and has an off second
+-- (h), (j): the record has room for n entries more, and the race is one of 1 to 12
 
+pub record CanTake (r : Record) (race n : ℕ) : Type 0 where
+  pub races : length (r .races) ≡ 12
+  pub room : r .count + n ≤ 4294967295
+  pub named : isRace race ≡ true
+
+-- (h): the race is open, and has an off second
 pub record OpenUntil (r : Record) (race off : ℕ) : Type 0 where
   pub named : isRace race ≡ true
   pub still : raceAt r (race - 1) .closed ≡ false
@@ -105,3 +113,62 @@ pub record OpenUntil (r : Record) (race off : ℕ) : Type 0 where
 -- then a second is stamped if it is below that
 pub openUntil-stamps : {r : Record} {race off : ℕ} → OpenUntil r race off → (second : ℕ) → mayStamp r race second ≡ ltb second off
 openUntil-stamps {r} {race} q second = mayStamp-open r race second (q .named) (q .still) ∙ ap (ltb second) (q .second)
+
+-- an entry as its five numbers, lent to a record whose count is not at its end
+abbrev five : ℕ → ℕ → ℕ → ℕ → ℕ → Placed
+five index set kind race value = record { index = index; entry = entry4 set kind race value }
+
+module _ (r : Record) (below : r .count < 4294967295) (index set kind race value : ℕ) where
+  pub lent-answer : takeNumbers (index ∷ set ∷ kind ∷ race ∷ value ∷ []) r .number ≡ 0
+  lent-answer =
+      let p : Placed = five index set kind race value in
+      ap (λ o. o .number) (takeNumbers-placed p r ∙ takeEntry-answers p r below)
+
+  pub lent-count : takeNumbers (index ∷ set ∷ kind ∷ race ∷ value ∷ []) r .record′ .count ≡ r .count + 1
+  unfolding takeAll
+  lent-count =
+      let p : Placed = five index set kind race value in
+      ap (λ o. o .record′ .count) (takeNumbers-placed p r) ∙ takeAll-count (p ∷ []) r (omega arith)
+
+module _ {r : Record} {race n : ℕ} (q : CanTake r race (suc n)) where
+  pub canTake-below : r .count < 4294967295
+  canTake-below = omega (arith, q .room)
+
+  canTake-there : race ≤ length (r .races)
+  canTake-there = omega (arith, q .races, between-bounds 1 12 race (q .named) .1)
+
+  -- a POST of 1 to 86,399 gives an open race that off second
+  pub canTake-post : (index set off : ℕ) → isOff off ≡ true → raceAt r (race - 1) .closed ≡ false →
+      OpenUntil (takeNumbers (index ∷ set ∷ 1 ∷ race ∷ off ∷ []) r .record′) race off
+  canTake-post index set off fits opened =
+      let p : Placed = five index set 1 race off in
+      let e = ap (λ o. raceAt (o .record′) (race - 1)) (takeNumbers-placed p r)
+      ∙ takeEntry-post p r canTake-below (q .named) canTake-there refl fits opened in
+      record { named = q .named; still = ap (λ x. x .closed) e; second = ap (λ x. x .off) e }
+
+  -- a CLOSE closes the race, which keeps its off second
+  pub canTake-close : (index set value : ℕ) →
+      ClosedAs (raceAt r (race - 1)) (raceAt (takeNumbers (index ∷ set ∷ 3 ∷ race ∷ value ∷ []) r .record′) (race - 1))
+  canTake-close index set value =
+      let p : Placed = five index set 3 race value in
+      let e = ap (λ o. raceAt (o .record′) (race - 1)) (takeNumbers-placed p r)
+      ∙ takeEntry-close p r canTake-below (q .named) canTake-there refl in
+      record { closed = ap (λ x. x .closed) e; off = ap (λ x. x .off) e }
+
+-- (j): the race is closed afterwards, with the off second that it had, and no second is stamped
+pub record StillClosed (race : ℕ) (r r′ : Record) : Type 0 where
+  pub kept : ClosedAs (raceAt r (race - 1)) (raceAt r′ (race - 1))
+  pub none : (second : ℕ) → mayStamp r′ race second ≡ false
+
+-- after a POST it is, if it was closed before
+pub closed-post : (r : Record) (index set race value : ℕ) → raceAt r (race - 1) .closed ≡ true →
+    let after : Record = takeNumbers (index ∷ set ∷ 1 ∷ race ∷ value ∷ []) r .record′ in
+    StillClosed race r after × (after .races ≡ r .races)
+closed-post r index set race value closed =
+    let p : Placed = five index set 1 race value in
+    let r′ : Record = takeEntry p r .record′ in
+    let kept = takeEntry-closed p r (race - 1) closed in
+    rw (takeNumbers-placed p r) (
+      record { kept = kept; none = λ second. mayStamp-closed r′ race second (kept .closed) },
+      takeEntry-post-closed p r refl closed,
+    )

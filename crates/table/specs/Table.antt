@@ -1,6 +1,6 @@
 -- The proved table of document 01, together as one theorem about the rules. The paper's words stand beside each row, and a row holds of any
 -- player and any record of which they are true.
-use Prim.Native.Nat.{ℕ, _+_, _-_, _≤_}
+use Prim.Native.Nat.{ℕ, _+_, _-_, _≤_, _<_}
 use mathlib.Core.Path.{_≡_, refl, ap, _∙_}
 use mathlib.Core.List.{List, [], _∷_, _++_}
 use mathlib.Core.Bool.{true, false, or-true}
@@ -8,10 +8,10 @@ use native.Mathlib.Omega.{arith}
 use borrow.Author.Tests.{lt-ltb, le-ltb, eq-eqb, ne-eqb}
 use lib.ListN.{length, take, drop}
 use lib.Dec.{eqb}
-use Rattle.journal.specs.Entry.{Placed, numbersOf, entriesOf, entry4}
+use Rattle.journal.specs.Entry.{numbersOf, entriesOf}
 use Rattle.record.specs.declared.Record.{Record}
-use Rattle.record.specs.Record.{takeEntry, takeNumbers, mayStamp}
-use Rattle.record.specs.Laws.{raceAt, ClosedAs, takeEntry-closed, takeEntry-post-closed, takeNumbers-placed, mayStamp-closed}
+use Rattle.record.specs.Record.{Outcome, takeNumbers, mayStamp}
+use Rattle.record.specs.Races.{raceAt}
 use Rattle.rules.specs.View.{normal, fetching, WindowView, PlayerView}
 use Rattle.rules.specs.Shape.{shape}
 use Rattle.rules.specs.Window.{isSuspended, isReport, joined}
@@ -22,7 +22,7 @@ use Rattle.journal_text.specs.Scan.{scan}
 use Rattle.journal_text.specs.Answers.{answer}
 use Rattle.journal_text.specs.AnswerLaws.{Reads, reads-good, reads-bad}
 use Rattle.table.specs.Run.{RunA, row-a, StageA, row-a-stage}
-use Rattle.table.specs.States.{OneMore, oneMore-wanted, oneMore-window, EightOut, eightOut-within, eightOut-here, MoreReady, moreReady-taken, moreReady-length, moreReady-answer, Away, OpenUntil, openUntil-stamps}
+use Rattle.table.specs.States.{OneMore, oneMore-wanted, oneMore-window, EightOut, eightOut-within, eightOut-here, MoreReady, moreReady-taken, moreReady-length, moreReady-answer, Away, CanTake, canTake-below, canTake-post, canTake-close, OpenUntil, openUntil-stamps, StillClosed, closed-post, lent-answer, lent-count}
 
 pub record ProvedTable : Type 0 where
   -- (a) The run above.
@@ -55,18 +55,23 @@ pub record ProvedTable : Type 0 where
       (v .acked ≤ v .sent → isReport (entriesOf ns) w (v .sent) ≡ true →
       (joinRule ns w (v .sent) p .answer ≡ 0) × (windowAt w (joinRule ns w (v .sent) p .next) ≡ joined (p .current) (v .sent) v))
       × (joinRule ns w (v .sent + 1) p .answer ≡ 13)
-  -- (h) Second 50,399 with off 50,400: stamped; 50,400: not.
-  pub h : (r : Record) (race : ℕ) → OpenUntil r race 50400 → (mayStamp r race 50399 ≡ true) × (mayStamp r race 50400 ≡ false)
+  -- (h) Second 50,399 with off 50,400: stamped; 50,400: not. A POST of 50,400 to an open race of any record gives it that off.
+  pub h : (r : Record) (race : ℕ) → CanTake r race 1 → raceAt r (race - 1) .closed ≡ false → (index set : ℕ) →
+      let posted : Outcome = takeNumbers (index ∷ set ∷ 1 ∷ race ∷ 50400 ∷ []) r in
+      (posted .number ≡ 0) × (mayStamp (posted .record′) race 50399 ≡ true) × (mayStamp (posted .record′) race 50400 ≡ false)
   -- and with any off second but 0
   pub h-any : (r : Record) (race s : ℕ) → OpenUntil r race (s + 1) → (mayStamp r race s ≡ true) × (mayStamp r race (s + 1) ≡ false)
   -- (i) Header alone: no entries; no bytes: 16 at 0. The output is as it was.
   pub i : (out : List ℕ) → Reads header out (answer 0 (0 ∷ [])) out × Reads [] out (answer 16 (0 ∷ [])) out
-  -- (j) POST after CLOSE: still closed, with its off second as it was, no race changed, and no second stamped.
-  pub j : (r : Record) (index set race value : ℕ) → raceAt r (race - 1) .closed ≡ true →
+  -- (j) POST after CLOSE: still closed, in any record.
+  pub j : (r : Record) (race : ℕ) → CanTake r race 2 → (index set value index′ set′ value′ : ℕ) →
+      let close : Outcome = takeNumbers (index ∷ set ∷ 3 ∷ race ∷ value ∷ []) r in
+      let post : Outcome = takeNumbers (index′ ∷ set′ ∷ 1 ∷ race ∷ value′ ∷ []) (close .record′) in
+      (close .number ≡ 0) × (post .number ≡ 0) × StillClosed race r (post .record′)
+  -- and in any race that is closed; no race changes
+  pub j-any : (r : Record) (index set race value : ℕ) → raceAt r (race - 1) .closed ≡ true →
       let after : Record = takeNumbers (index ∷ set ∷ 1 ∷ race ∷ value ∷ []) r .record′ in
-      ClosedAs (raceAt r (race - 1)) (raceAt after (race - 1))
-      × (after .races ≡ r .races)
-      × ((second : ℕ) → mayStamp after race second ≡ false)
+      StillClosed race r after × (after .races ≡ r .races)
 
 pub proved-table : ProvedTable
 unfolding scan numbersOf
@@ -99,16 +104,22 @@ proved-table = record {
         joinRule-refusals ns w (v .sent + 1) p
             ∙ simp (q .shaped, lt-ltb w _ (q .within), away, below, lt-ltb (v .sent) (v .sent + 1) (omega arith), or-true),
       );
-  h = λ r race q. (openUntil-stamps q 50399, openUntil-stamps q 50400);
+  h = λ r race q opened index set.
+      let o = canTake-post q index set 50400 refl opened in
+      (lent-answer r (canTake-below q) index set 1 race 50400, openUntil-stamps o 50399, openUntil-stamps o 50400);
   h-any = λ r race s q. (
     openUntil-stamps q s ∙ lt-ltb s (s + 1) (omega arith),
     openUntil-stamps q (s + 1) ∙ le-ltb (s + 1) (s + 1) (omega arith),
   );
   i = λ out. (reads-good header out [] refl (omega arith), reads-bad [] out [] 0 refl);
-  j = λ r index set race value closed.
-      let post : Placed = record { index = index; entry = entry4 set 1 race value } in
-      let r′ : Record = takeEntry post r .record′ in
-      let stays : ClosedAs (raceAt r (race - 1)) (raceAt r′ (race - 1)) = takeEntry-closed post r (race - 1) closed in
-      rw (takeNumbers-placed post r)
-      (stays, takeEntry-post-closed post r refl closed, λ second. mayStamp-closed r′ race second (stays .closed));
+  j = λ r race q index set value index′ set′ value′.
+      let r′ : Record = takeNumbers (index ∷ set ∷ 3 ∷ race ∷ value ∷ []) r .record′ in
+      let below : r′ .count < 4294967295 = omega (arith, lent-count r (canTake-below q) index set 3 race value, q .room) in
+      let shut = canTake-close q index set value in
+      let still = closed-post r′ index′ set′ race value′ (shut .closed) .0 in (
+        lent-answer r (canTake-below q) index set 3 race value,
+        lent-answer r′ below index′ set′ 1 race value′,
+        record { kept = record { closed = still .kept .closed; off = still .kept .off ∙ shut .off }; none = still .none },
+      );
+  j-any = closed-post;
 }

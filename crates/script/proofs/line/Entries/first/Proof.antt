@@ -1,6 +1,6 @@
 -- The first of eighteen cells.
 use native.Mathlib.Omega.{arith}
-use Rattle.player.specs.FirstWindows.{getD-any}
+use Rattle.lists.specs.Set.{getD-any}
 use Rattle.script.specs.Line.{noSent}
 use Rattle.script.proofs.Sixteen.{entries-length}
 use borrow.Author.Needs.{needs}
