@@ -61,7 +61,8 @@ impl Host {
         self
     }
 
-    // Serves window w: sends it batches and fetches what it missed, until nothing is ready and none is left to fetch, or a call is refused.
+    // Serves window w: sends it batches and fetches what it missed, until nothing is ready and nothing is left to fetch, or a call is
+    // refused.
     fn serve(mut self, journal: &[u32], w: u32) -> Host
         requires { ⌜ w < 16 ⌝ }
     {
