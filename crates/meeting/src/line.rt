@@ -6,20 +6,20 @@ use record::Record;
 use window::Head;
 
 // What a batch leaves: the player, the window's record and what the host counts.
-pub(crate) struct Turn {
+pub(crate) struct BatchLeft {
     pub(crate) player: Player,
     pub(crate) record: Record,
     pub(crate) tally: Tally,
 }
 
 // What taking a batch leaves: the window's record and what the host counts.
-struct Taken {
+struct RecordLeft {
     record: Record,
     tally: Tally,
 }
 
 // Takes each entry of a batch, five numbers of the output. The last entry is the one at the index that was sent.
-fn take_batch(before: Record, output: &[u32; 160], sent: Index, counted: Tally) -> Taken {
+fn take_batch(before: Record, output: &[u32; 160], sent: Index, counted: Tally) -> RecordLeft {
     let numbers = &output[..];
     let mut record = before;
     let mut tally = counted;
@@ -34,11 +34,11 @@ fn take_batch(before: Record, output: &[u32; 160], sent: Index, counted: Tally) 
             break;
         }
     }
-    Taken { record, tally }
+    RecordLeft { record, tally }
 }
 
 // The batch is written to the line, and the window takes and acknowledges it.
-pub(crate) fn deliver(
+fn deliver(
     player: Player,
     journal: &[u32],
     w: u32,
@@ -46,7 +46,7 @@ pub(crate) fn deliver(
     output: &[u32; 160],
     record: Record,
     tally: Tally,
-) -> Turn {
+) -> BatchLeft {
     let written = operations::written_on(player, journal, w, head.term);
     let write = written.answer;
     let taken = take_batch(record, output, head.sent, tally.after(write));
@@ -54,7 +54,7 @@ pub(crate) fn deliver(
     let acked = operations::ack_on(written.player, journal, w, head.term, head.sent);
     let ack = acked.answer;
     let next = acked.player;
-    Turn {
+    BatchLeft {
         player: next,
         record: kept,
         tally: taken.tally.after(ack),
@@ -62,14 +62,14 @@ pub(crate) fn deliver(
 }
 
 // The line drops when the window has taken the first entry of the batch, and the window joins again with its last index.
-pub(crate) fn lose(
+fn lose(
     player: Player,
     journal: &[u32],
     w: u32,
     output: &[u32; 160],
     record: Record,
     tally: Tally,
-) -> Turn {
+) -> BatchLeft {
     let numbers = &output[..];
     let taken = record::take_by_value(record, &numbers[0..5]);
     let take = taken.answer;
@@ -79,9 +79,25 @@ pub(crate) fn lose(
     let joined = operations::join_on(dropped.player, journal, w, kept.last);
     let join = joined.answer;
     let next = joined.player;
-    Turn {
+    BatchLeft {
         player: next,
         record: kept,
         tally: tally.taken(take).after(drop).after(join),
     }
+}
+
+// Carries a batch that was sent: to its end, or to the line's drop.
+pub(crate) fn carry(
+    player: Player,
+    journal: &[u32],
+    w: u32,
+    head: Head,
+    output: &[u32; 160],
+    record: Record,
+    tally: Tally,
+) -> BatchLeft {
+    if tally.drops() {
+        return lose(player, journal, w, output, record, tally);
+    }
+    deliver(player, journal, w, head, output, record, tally)
 }

@@ -125,4 +125,4 @@ pub take-lent-made : {M : Type 1} (𝓤 : URA M) (H : Heap 𝓤) (A : Atoms 𝓤
     front .numbers ≡ now (a .1 .0) →
     ent 𝓤 (lent.clauses 𝓤 H A mem run κs a .ensures tt r s) (fact 𝓤 (Made h (take w (record { answer = r; «record» = now (s .0) }))))
 take-lent-made 𝓤 H A mem run κs a r s h w front rest own line five =
-    fact-mono 𝓤 _ _ (λ (number, kept). rw (own, line, five) (ap₂ (λ n x. record { number = n; record′ = x }) number kept))
+    fact-mono 𝓤 _ _ (λ (number, left). rw (own, line, five) (ap₂ (λ n x. record { number = n; record′ = x }) number left))
