@@ -31,6 +31,7 @@ use Rattle.script.specs.declared.slot.Slot.{Slot}
 use Rattle.script.specs.declared.settle.Settled.{Settled}
 use Rattle.script.specs.declared.Stage.{Stage}
 use Rattle.script.specs.declared.Reply.the-variants.{Answered}
+use Rattle.script.specs.declared.Stepped.{Stepped}
 use Rattle.script.specs.Stage.{worldOf, windowOf, lineAt}
 use Rattle.script.specs.Promise.{playable, isRefusal, Steps, Plays}
 use Rattle.script.specs.Stored.{slotIn, lacks, outcomeAt, outputAt, Settles, storedBy}
@@ -171,15 +172,20 @@ module _ (ns : List ℕ) (s : Stage) (h : Staged s) (st : Step) (x : Slot) (here
   pub plays-within : numberOf (r .answer) ≡ 0 → windowOf st < s .player .count
   plays-within z = step-within ns s h journal st lacks-here (sym (made-here .meets .answer) ∙ z)
 
-  pub plays-refused : (numberOf (r .answer) ≡ 0 → ⊥) → Plays ns s st (record { reply = Answered (numberOf (r .answer)); stage = s })
-  plays-refused n =
-      plays-still ns s st _ (h .records) (h .lines) (λ c. step-refuses ns s h journal st r lacks-here (made-here .meets) n)
-      (λ c. absurd (true≢false (sym can ∙ c)))
+  pub plays-refused : (n : ℕ) (after : Stepped) → after ≡ record { reply = Answered n; stage = s } → n ≡ numberOf (r .answer) →
+      (n ≡ 0 → ⊥) → Plays ns s st after
+  plays-refused n after gives is some =
+      rw gives
+      (plays-still ns s st _ (h .records) (h .lines)
+      (λ c. rw is (step-refuses ns s h journal st r lacks-here (made-here .meets) (λ z. some (is ∙ z))))
+      (λ c. absurd (true≢false (sym can ∙ c))))
 
-  pub plays-done : (y : Settled) → numberOf (r .answer) ≡ 0 → Settles x still out y → Plays ns s st (storedBy s (windowOf st) (r .player) y)
-  plays-done y z f =
+  pub plays-done : (w : ℕ) (y : Settled) (after : Stepped) → after ≡ storedBy s w (r .player) y → w ≡ windowOf st →
+      numberOf (r .answer) ≡ 0 → Settles x still out y → Plays ns s st after
+  plays-done w y after gives is z f =
       let l = plays-within z in
-      record {
+      rw (gives, is)
+      (record {
         played = λ c. step-does ns s h journal st still r out y lacks-here made-here z (rw (k .same, here) at f);
         stuck = λ c. absurd (true≢false (sym can ∙ c));
         refused = λ c. absurd (true≢false (sym c ∙ settles-reply x still out y f));
@@ -190,4 +196,4 @@ module _ (ns : List ℕ) (s : Stage) (h : Staged s) (st : Step) (x : Slot) (here
         };
         records = length-set (s .records) (windowOf st) (y .record) ∙ h .records;
         lines = length-set (s .lines) (windowOf st) (y .line) ∙ h .lines;
-      }
+      })

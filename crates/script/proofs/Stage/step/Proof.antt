@@ -199,9 +199,9 @@ returns-2 : tie.Need-returns-2
 returns-2 c =
     let came = c .before .before in
     let at = read came in
-    rw (c .before .number .ensures)
-    (plays-refused (numbers at) (stage at) (held came) (asked at) (at .if1 .slot) (slotted at (few came)) (on came .can) (on came .has)
-    (came .match2 .step) (came .match2 .played) (came .match2 .out) (called came) (λ z. c .if2 .taken (c .before .number .ensures ∙ z)))
+    plays-refused (numbers at) (stage at) (held came) (asked at) (at .if1 .slot) (slotted at (few came)) (on came .can) (on came .has)
+    (came .match2 .step) (came .match2 .played) (came .match2 .out) (called came) (c .before .number .result) _ refl
+    (c .before .number .ensures) (c .if2 .taken)
 
 settled-requires : tie.Need-settled-requires
 settled-requires c κs =
@@ -232,10 +232,10 @@ returns-3 c =
     let done = settled .before in
     let came = done .before .before in
     let at = read came in
-    rw (window at)
-    (plays-done (numbers at) (stage at) (held came) (asked at) (at .if1 .slot) (slotted at (few came)) (on came .can) (on came .has)
-    (came .match2 .step) (came .match2 .played) (came .match2 .out) (called came) (settled .settled .result) (sym (done .before .number .ensures) ∙ done .if2 .left)
-    (settled .settled .ensures))
+    plays-done (numbers at) (stage at) (held came) (asked at) (at .if1 .slot) (slotted at (few came)) (on came .can) (on came .has)
+    (came .match2 .step) (came .match2 .played) (came .match2 .out) (called came)
+    (at .before .before .window-of .result) (settled .settled .result) _ refl (window at)
+    (sym (done .before .number .ensures) ∙ done .if2 .left) (settled .settled .ensures)
 
 pub step-spec : {M : Type 1} → statement M
 step-spec =
