@@ -30,10 +30,11 @@ use Rattle.script_line.specs.declared.Verb.the-variants.{Catch, Written, Drop}
 use Rattle.script.specs.declared.Stage.{Stage}
 use Rattle.script.specs.declared.Reply.the-variants.{Answered}
 use Rattle.script.specs.declared.Stepped.{Stepped}
-use Rattle.script.specs.Stage.{worldOf, forgotten, dueIn, stepIn, replyOf, windowOf, lineAt}
+use Rattle.script.specs.Stage.{worldOf, forgotten, dueIn, stepIn, replyOf, windowOf, lineIn}
 use Rattle.script.specs.Promise.{playable, Playable, Steps}
 use Rattle.script.specs.Stored.{slotIn, outcomeAt, indexAfter, settledAs, storedBy}
-use Rattle.script.specs.Worlds.{worldOf-numbers, worldOf-forgotten, Staged, worldOf-player, worldOf-side, worldOf-called, storedAt-same}
+use Rattle.script.specs.Worlds.{worldOf-numbers, worldOf-forgotten, Staged, worldOf-player, worldOf-side, worldOf-called}
+use Rattle.script.specs.Worlds.{storedAt-same}
 
 -- ------------------------------------------------------------------------
 -- playable, Steps
@@ -42,7 +43,7 @@ pub playable-facts : (ns : List ℕ) (s : Stage) (st : Step) → playable ns s s
 playable-facts ns s st h =
     let room = and-right (inShape ns) _ h in
     let line = and-right (leb (s .player .count) 16) _ room in
-    let few = leb (lineAt (windowOf st) s .entries .len) 16 in
+    let few = leb (lineIn (windowOf st) s .entries .len) 16 in
     record {
       journal = and-left (inShape ns) _ h;
       room = record {
@@ -91,7 +92,7 @@ module _ (ns : List ℕ) (s : Stage) (h : Staged s) (e : inShape ns ≡ true) wh
 
   pub called-steps : (st : Step) (w : ℕ) (r : Played) (o : Outcome) → W.step (stepIn wd st) wd ≡ called o wd → Meets (s .player) r o →
       length (o .next .windows) ≡ length (player .windows) → numberOf (r .answer) ≡ 0 → w < s .player .count →
-      Steps (entriesOf ns) s st (storedBy s w (r .player) (settledAs (slotIn w s) (lineAt w s)))
+      Steps (entriesOf ns) s st (storedBy s w (r .player) (settledAs (slotIn w s) (lineIn w s)))
   called-steps st w r o is k same zero within =
       steps-as (entriesOf ns) s st (called o wd) _ is (ap answered (sym zero ∙ k .answer))
       (ap (worldOf (entriesOf ns)) (storedAt-same s w (r .player) within)

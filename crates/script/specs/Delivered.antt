@@ -1,5 +1,5 @@
--- A script that the stage plays is a run that demand 3 speaks of: its replies are the run's, and what the records hold at its end are leading
--- parts.
+-- A script that the stage plays is a run that demand 3 speaks of: its replies are the run's, and what the records hold at its end are
+-- leading parts.
 use Prim.Native.Nat.{ℕ, _<_}
 use mathlib.Core.Path.{_≡_, refl, sym, ap, ap₂, _∙_}
 use mathlib.Core.List.{List, [], _∷_, map}
@@ -19,15 +19,15 @@ use Rattle.script_line.specs.declared.Step.{Step}
 use Rattle.script.specs.declared.Stage.{Stage}
 use Rattle.script.specs.declared.Reply.{Reply}
 use Rattle.script.specs.declared.Stepped.{Stepped}
-use Rattle.script.specs.Stage.{worldOf, forgotten, stepIn, stepsIn, replyOf, recordAt}
+use Rattle.script.specs.Stage.{worldOf, forgotten, stepIn, stepsIn, replyOf, recordIn}
 use Rattle.script.specs.Promise.{Plays}
 use Rattle.script.specs.Opening.{openedBy, openedBy-journal, openedBy-done, openedBy-world}
 use Rattle.script.specs.Worlds.{worldOf-forgotten, Staged, worldOf-side}
 use Rattle.script.specs.Room.{Roomy, roomy-step, roomy-opened}
 use Rattle.script.specs.Shown.{forgotten-at, shown-few, shown-plays}
 
--- a script played from a stage to a stage, with its replies: each step gives what `Stage::step` promises, and is handed what the step before
--- gave
+-- a script played from a stage to a stage, with its replies: each step gives what `Stage::step` promises, and is handed what the step
+-- before gave
 pub data Script (ns : List ℕ) : Stage → List Step → List Reply → Stage → Type 0 where
   none : {s : Stage} → Script ns s [] [] s
   more : {s t : Stage} {st : Step} {sts : List Step} {rs : List Reply} (r : Stepped) → Plays ns s st r → Script ns (r .stage) sts rs t →
@@ -62,12 +62,12 @@ script-follows ns e {s = s} wd h (more {st = st} r k rest) =
 -- the replies, and each window's record, are those of a run of the world
 pub record Runs (first : World) (sts : List Step) (rs : List Reply) (t : Stage) : Type 0 where
   pub replied : map replyOf rs ≡ replies first (stepsIn first sts)
-  pub records : (w : ℕ) → recordAt w t ≡ sideAt w (W.run first (stepsIn first sts)) .record′
+  pub records : (w : ℕ) → recordIn w t ≡ sideAt w (W.run first (stepsIn first sts)) .record′
 
 -- the record of window w is a leading part's
 pub record LeadingRecord (j : List Entry) (w : ℕ) (s : Stage) : Type 0 where
   pub k : ℕ
-  pub folded : recordAt w s ≡ takeAll (take k (own j w)) newRecord
+  pub folded : recordIn w s ≡ takeAll (take k (own j w)) newRecord
 
 module _ (ns : List ℕ) (count : ℕ) (before : PlayerView) (ok : openedBy ns count .ok ≡ true) (t : Stage) (sts : List Step) (rs : List Reply)
     (script : Script ns (openedBy ns count .stage) sts rs t) where
@@ -88,8 +88,8 @@ module _ (ns : List ℕ) (count : ℕ) (before : PlayerView) (ok : openedBy ns c
       })
       script
 
-  -- A result to be read: what the code's steps reply along a script, and the records at its end, are those of the world's steps from the world
-  -- after a first Start, whatever a player held before
+  -- A result to be read: what the code's steps reply along a script, and the records at its end, are those of the world's steps from the
+  -- world after a first Start, whatever a player held before
   pub script-runs : Runs first sts rs t
   script-runs =
       let end = followed .shows in
@@ -104,8 +104,8 @@ module _ (ns : List ℕ) (count : ℕ) (before : PlayerView) (ok : openedBy ns c
             ap (λ p. p .record′) (sym (worldOf-side (entriesOf ns) t held w) ∙ ap (sideAt w) (end .world) ∙ forgotten-at w last);
       }
 
-  -- A result to be read: whatever the script, each window's record is what Take makes of a new record lent the first k of its own entries, for
-  -- some k
+  -- A result to be read: whatever the script, each window's record is what Take makes of a new record lent the first k of its own entries,
+  -- for some k
   pub script-delivers : (w : ℕ) → w < count → LeadingRecord (entriesOf ns) w t
   unfolding worldOf forgotten
   script-delivers w below =

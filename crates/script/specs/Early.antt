@@ -57,7 +57,8 @@ module _ (ns : List ℕ) (s : Stage) (st : Step) (x : Slot) (here : s .player .c
   test-playable : test ≡ playable ns s st
   test-playable = by (leb (s .player .count) 16) refl
     where
-      by : (b : Bool) → leb (s .player .count) 16 ≡ b → (inShape ns && (b && hasRoom x)) ≡ (inShape ns && (b && hasRoom (slotIn (windowOf st) s)))
+      by : (b : Bool) → leb (s .player .count) 16 ≡ b →
+          (inShape ns && (b && hasRoom x)) ≡ (inShape ns && (b && hasRoom (slotIn (windowOf st) s)))
       by true e = ap (λ y. inShape ns && hasRoom y) (here (leb-true _ _ e))
       by false e = refl
 

@@ -23,11 +23,11 @@ use Rattle.lists.specs.Cells.{front, front-length, front-first}
 abbrev pub placedOf : List ℕ → Placed
 placedOf ns = record { index = getD ns 0 0; entry = entry4 (getD ns 1 0) (getD ns 2 0) (getD ns 3 0) (getD ns 4 0) }
 
-abbrev pub sentOf : Sent → W.Sent
-sentOf x = record { placed = placedOf (x .numbers); term = x .term; ends = x .ends }
+abbrev pub worldSent : Sent → W.Sent
+worldSent x = record { placed = placedOf (x .numbers); term = x .term; ends = x .ends }
 
-abbrev pub ackOf : Ack → W.Ack
-ackOf x = record { term = x .term; index = x .index .0 }
+abbrev pub worldAck : Ack → W.Ack
+worldAck x = record { term = x .term; index = x .index .0 }
 
 -- what a cell holds that holds nothing
 abbrev pub noSent : Sent

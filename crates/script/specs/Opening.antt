@@ -67,7 +67,8 @@ startRule-answer : (ns : List ℕ) (count limit : ℕ) (reports : List ℕ) (p q
     startRule ns count limit reports p .answer ≡ startRule ns count limit reports q .answer
 unfolding startRule
 startRule-answer ns count limit reports p q =
-    go (not (countFits count && (limitFits limit && (inShape ns && eqb (length reports) count)))) (not (areReports (entriesOf ns) 0 reports))
+    go (not (countFits count && (limitFits limit && (inShape ns && eqb (length reports) count))))
+    (not (areReports (entriesOf ns) 0 reports))
   where
     go : (a b : Bool) → cond a (refuse 1 p) (cond b (refuse 13 p) (record { answer = 0; next = startNext limit reports })) .answer
         ≡ cond a (refuse 1 q) (cond b (refuse 13 q) (record { answer = 0; next = startNext limit reports })) .answer
@@ -82,7 +83,8 @@ unfolding startRule
 startRule-over ns count limit reports p h = go (leb 1 count)
   where
     go : (b : Bool) → cond (not ((b && leb count 16) && (limitFits limit && (inShape ns && eqb (length reports) count)))) (refuse 1 p)
-        (cond (not (areReports (entriesOf ns) 0 reports)) (refuse 13 p) (record { answer = 0; next = startNext limit reports })) ≡ refuse 1 p
+        (cond (not (areReports (entriesOf ns) 0 reports)) (refuse 13 p) (record { answer = 0; next = startNext limit reports }))
+        ≡ refuse 1 p
     go true = rw (lt-leb count 16 h)
     go false = refl
 
@@ -124,7 +126,8 @@ module _ (ns : List ℕ) (count : ℕ) where
       record { ok = eqb (numberOf (r .answer)) 0; stage = aroundPlayer (r .player) } ≡ openedBy ns count
   unfolding openingAnswer
   openedBy-start p b r reports h e k =
-      rw (sym answer) (ap (λ q. record { ok = eqb (numberOf (r .answer)) 0; stage = aroundPlayer q }) (by (eqb (numberOf (r .answer)) 0) refl))
+      rw (sym answer)
+      (ap (λ q. record { ok = eqb (numberOf (r .answer)) 0; stage = aroundPlayer q }) (by (eqb (numberOf (r .answer)) 0) refl))
     where
       zeros : reports ≡ replicate count 0
       zeros = e ∙ replicate-take count 16 0 h
@@ -150,14 +153,17 @@ module _ (ns : List ℕ) (count : ℕ) where
     openedBy-journal = startRule-done ns count 2 (replicate count 0) before first-answer .given .journal
 
     numbers : firstStart before (entriesOf ns) count 2 ≡ startRule ns count 2 (replicate count 0) before
-    numbers = ap (λ x. startRule x count 2 (replicate count 0) before) (numbersOf-entriesOf ns (eqb-true _ _ (and-left _ _ openedBy-journal)))
+    numbers =
+        ap (λ x. startRule x count 2 (replicate count 0) before)
+        (numbersOf-entriesOf ns (eqb-true _ _ (and-left _ _ openedBy-journal)))
 
     -- it is a first Start of demand 3, answered 0
     pub openedBy-done : firstStart before (entriesOf ns) count 2 .answer ≡ 0
     openedBy-done = ap (λ o. o .answer) numbers ∙ first-answer
 
     -- A result to be read: the stage shows the world after that Start, whatever a player held before
-    pub openedBy-world : worldOf (entriesOf ns) (openedBy ns count .stage) ≡ opened (entriesOf ns) (firstStart before (entriesOf ns) count 2)
+    pub openedBy-world : worldOf (entriesOf ns) (openedBy ns count .stage)
+        ≡ opened (entriesOf ns) (firstStart before (entriesOf ns) count 2)
     unfolding worldOf opened
     openedBy-world =
         let j : List Entry = entriesOf ns in

@@ -32,14 +32,15 @@ use Rattle.script.specs.declared.settle.Settled.{Settled}
 use Rattle.script.specs.declared.Stage.{Stage}
 use Rattle.script.specs.declared.Reply.the-variants.{Answered}
 use Rattle.script.specs.declared.Stepped.{Stepped}
-use Rattle.script.specs.Stage.{worldOf, windowOf, lineAt}
+use Rattle.script.specs.Stage.{worldOf, windowOf, lineIn}
 use Rattle.script.specs.Promise.{playable, isRefusal, Steps, Plays}
 use Rattle.script.specs.Stored.{slotIn, lacks, outcomeAt, outputAt, Settles, storedBy}
 use Rattle.script.specs.Worlds.{playerOf-count, changed, Staged}
-use Rattle.script.specs.Calls.{playable-facts, operate-count, refused-steps, called-steps, main-calls, catch-calls, written-calls, drop-calls}
-use Rattle.script.specs.Settled.{lineAt-within, join-calls, join-steps, acked, ack-calls, ack-steps}
+use Rattle.script.specs.Calls.{playable-facts, operate-count, refused-steps, called-steps, main-calls, catch-calls, written-calls}
+use Rattle.script.specs.Calls.{drop-calls}
+use Rattle.script.specs.Settled.{lineIn-within, join-calls, join-steps, withoutAck, ack-calls, ack-steps}
 use Rattle.script.specs.Takes.{take-steps}
-use Rattle.script.specs.Sends.{launched, send-calls, send-steps}
+use Rattle.script.specs.Sends.{withBatch, send-calls, send-steps}
 use Rattle.script.specs.Early.{plays-still}
 
 -- ------------------------------------------------------------------------
@@ -122,23 +123,24 @@ module _ (ns : List ℕ) (s : Stage) (h : Staged s) (e : inShape ns ≡ true) wh
   step-within (At Ack w) has z = omega (arith, ackRule-done ns w _ _ player z .within, playerOf-count (s .player))
   step-within (At Drop w) has z = omega (arith, dropRule-lawful ns w player .does z .within, playerOf-count (s .player))
   step-within (At Join w) has z = omega (arith, joinRule-done ns w _ player z .within, playerOf-count (s .player))
-  step-within (At Take w) has z = lineAt-within s w (λ l. l .entries .len) refl (pos-of-ne-zero (eqb-false _ _ has))
+  step-within (At Take w) has z = lineIn-within s w (λ l. l .entries .len) refl (pos-of-ne-zero (eqb-false _ _ has))
 
   step-refuses : (st : Step) (r : Played) → lacks (slot st) st ≡ false → Meets (s .player) r (outcomeAt ns (s .player) (slot st) st) →
       (numberOf (r .answer) ≡ 0 → ⊥) → Steps (entriesOf ns) s st (record { reply = Answered (numberOf (r .answer)); stage = s })
   step-refuses Main r has k n = refused-steps ns s h e Main r _ (λ x. x) (main-calls ns s h e ∙ called-then _ wd) k n
   step-refuses (At Catch w) r has k n = refused-steps ns s h e _ r _ (λ x. x) (catch-calls ns s h e w ∙ called-then _ wd) k n
-  step-refuses (At Send w) r has k n = refused-steps ns s h e _ r _ (changed w (launched ns s h e w)) (send-calls ns s h e w) k n
+  step-refuses (At Send w) r has k n = refused-steps ns s h e _ r _ (changed w (withBatch ns s h e w)) (send-calls ns s h e w) k n
   step-refuses (At Written w) r has k n = refused-steps ns s h e _ r _ (λ x. x) (written-calls ns s h e w ∙ called-then _ wd) k n
   step-refuses (At Ack w) r has k n =
-      let some : 0 < lineAt w s .acks .len = pos-of-ne-zero (eqb-false _ _ has) in
-      refused-steps ns s h e _ r _ (changed w (acked ns s h e w some)) (ack-calls ns s h e w some) k n
+      let some : 0 < lineIn w s .acks .len = pos-of-ne-zero (eqb-false _ _ has) in
+      refused-steps ns s h e _ r _ (changed w (withoutAck ns s h e w some)) (ack-calls ns s h e w some) k n
   step-refuses (At Drop w) r has k n = refused-steps ns s h e _ r _ (λ x. x) (drop-calls ns s h e w ∙ called-then _ wd) k n
   step-refuses (At Join w) r has k n = refused-steps ns s h e _ r _ (changed w cleared) (join-calls ns s h e w) k n
   step-refuses (At Take w) r has k n = absurd (n (k .answer))
 
   step-does : (st still : Step) (r : Played) (out : List ℕ) (y : Settled) → lacks (slot st) st ≡ false →
-      Made ns (s .player) (slot st) st still r out → numberOf (r .answer) ≡ 0 → Settles (slot st) st out y → Steps (entriesOf ns) s st (storedBy s (windowOf st) (r .player) y)
+      Made ns (s .player) (slot st) st still r out → numberOf (r .answer) ≡ 0 → Settles (slot st) st out y →
+      Steps (entriesOf ns) s st (storedBy s (windowOf st) (r .player) y)
   unfolding catchRule writtenRule dropRule
   step-does st still r out y has k z f = by st has k f (step-within st has (sym (k .meets .answer) ∙ z))
     where
@@ -147,7 +149,8 @@ module _ (ns : List ℕ) (s : Stage) (h : Staged s) (e : inShape ns ≡ true) wh
       by Main has k f l = rw f (called-steps ns s h e Main _ r _ (main-calls ns s h e) (k .meets) (mainRule-count ns _ player) z l)
       by (At Catch w) has k f l = rw f (called-steps ns s h e _ w r _ (catch-calls ns s h e w) (k .meets) (operate-count ns w _ player) z l)
       by (At Send w) has k f l = send-steps ns s h e w r y out (k .meets) z (k .wrote) f
-      by (At Written w) has k f l = rw f (called-steps ns s h e _ w r _ (written-calls ns s h e w) (k .meets) (operate-count ns w _ player) z l)
+      by (At Written w) has k f l =
+          rw f (called-steps ns s h e _ w r _ (written-calls ns s h e w) (k .meets) (operate-count ns w _ player) z l)
       by (At Ack w) has k f l = ack-steps ns s h e w (pos-of-ne-zero (eqb-false _ _ has)) r y (k .meets) z f
       by (At Drop w) has k f l = rw f (called-steps ns s h e _ w r _ (drop-calls ns s h e w) (k .meets) (operate-count ns w _ player) z l)
       by (At Join w) has k f l = join-steps ns s h e w r y (k .meets) z f
@@ -159,7 +162,8 @@ module _ (ns : List ℕ) (s : Stage) (h : Staged s) (e : inShape ns ≡ true) wh
 
 -- of a slot that is known to be the step's, where the step goes on
 module _ (ns : List ℕ) (s : Stage) (h : Staged s) (st : Step) (x : Slot) (here : x ≡ slotIn (windowOf st) s)
-    (can : playable ns s st ≡ true) (has : lacks x st ≡ false) (still : Step) (r : Played) (out : List ℕ) (k : Made ns (s .player) x st still r out) where
+    (can : playable ns s st ≡ true) (has : lacks x st ≡ false) (still : Step) (r : Played) (out : List ℕ)
+    (k : Made ns (s .player) x st still r out) where
   journal : inShape ns ≡ true
   journal = playable-facts ns s st can .journal
 

@@ -1,5 +1,5 @@
--- Room on the lines: in every world that a script reaches from an opening with the batch limit 2, a line has at most two entries for each of
--- its batches, and the batches on it and the acks on the way back are at most 8 together.
+-- Room on the lines: in every world that a script reaches from an opening with the batch limit 2, a line has at most two entries for each
+-- of its batches, and the batches on it and the acks on the way back are at most 8 together.
 use Prim.Native.Nat.{ℕ, _+_, _*_, _≤_, _<_}
 use mathlib.Core.Path.{_≡_, refl, sym, ap, subst, subst⁻¹, _∙_}
 use mathlib.Core.List.{List, [], _∷_, _++_}
@@ -15,13 +15,15 @@ use Rattle.rules.specs.View.{WindowView, PlayerView, noWindow}
 use Rattle.rules.specs.Window.{batchOf, sendAt, ackAt, joinAt}
 use Rattle.rules.specs.Rules.{Outcome, catchRule, writtenRule, ackRule, dropRule, joinRule, sendRule}
 use Rattle.rules.specs.Offers.{operate-limit, mainRule-cases, startRule-done}
-use Rattle.delivery.specs.World.{Sent, Ack, Side, World, noSide, sideAt, numbersIn, playerIn, withLines, withPlayer, withSide, onLine, takeFront, answered, calledThen, launch, takeAtLine, ackAtLine, cleared, newSide, opened}
+use Rattle.delivery.specs.World.{Sent, Ack, Side, World, noSide, sideAt, numbersIn, playerIn, withLines, withPlayer, withSide, onLine}
+use Rattle.delivery.specs.World.{takeFront, answered, calledThen, launch, takeAtLine, ackAtLine, cleared, newSide, opened}
 use Rattle.delivery.specs.World as W
 use Rattle.delivery.specs.Statement.{firstStart}
 use Rattle.delivery.specs.Invariant.{backIndices, endsOf, Inv, Reached}
 use Rattle.delivery.specs.Lines.{endsOf-append, onLine-ends}
 use Rattle.delivery.specs.Worlds.{withSide-count}
-use Rattle.delivery.specs.Effects.{Worked, caught, sent, written, took, acked, stays, mains, works, Facts, working, dropping, joining, starting, appending}
+use Rattle.delivery.specs.Effects.{Worked, caught, sent, written, took, acked, stays, mains, works, Facts, working, dropping, joining}
+use Rattle.delivery.specs.Effects.{starting, appending}
 use Rattle.delivery.specs.SteppedAll.{step-facts}
 use Rattle.delivery.specs.Reach.{reached-step}
 use Rattle.delivery.specs.Demand3.{opened-reached}
@@ -29,7 +31,7 @@ use Rattle.script_line.specs.declared.Step.{Step}
 use Rattle.script_line.specs.declared.Step.the-variants.{Main, At}
 use Rattle.script_line.specs.declared.Verb.the-variants.{Catch, Send, Written, Ack as AckVerb, Drop, Join, Take}
 use Rattle.script.specs.Stage.{stepIn, stepsIn}
-use Rattle.script.specs.Sends.{batchOf-length}
+use Rattle.script.specs.Sends.{batchOf-most}
 
 -- ------------------------------------------------------------------------
 -- Pairs
@@ -111,11 +113,13 @@ worked-roomy j c limit w p p′ few inv r (sent size d e) =
     = ap length (inv .unacked .batchesIs (d .here)) ∙ length-append (backIndices (p .back)) (endsOf (p .line))
     ∙ ap (λ n. n + length (endsOf (p .line))) (length-map (p .back) (λ a. a .index)) in
     let ends : length (endsOf (p .line ++ onLine j (p .view .term) is)) ≡ length (endsOf (p .line)) + 1
-    = ap length (endsOf-append (p .line) (onLine j (p .view .term) is)) ∙ length-append (endsOf (p .line)) (endsOf (onLine j (p .view .term) is))
+    = ap length (endsOf-append (p .line) (onLine j (p .view .term) is))
+    ∙ length-append (endsOf (p .line)) (endsOf (onLine j (p .view .term) is))
     ∙ ap (λ l. length (endsOf (p .line)) + length l) (onLine-ends j (p .view .term) is (d .some)) in
     rw e
     (record {
-      pairs = pairs-append (p .line) (onLine j (p .view .term) is) (r .pairs) (pairs-batch j (p .view .term) is (omega (arith, batchOf-length limit (p .view))));
+      pairs = pairs-append (p .line) (onLine j (p .view .term) is) (r .pairs)
+          (pairs-batch j (p .view .term) is (omega (arith, batchOf-most limit (p .view))));
       batches = omega (arith, held, ends, d .few);
     })
 
@@ -170,7 +174,8 @@ module _ (wd : World) (s : W.Step) (is : scripted s ≡ true) (r : Roomy wd) whe
       let q = r .each w (omega (arith, m .count)) in
       subst⁻¹ RoomySide (m .each w (omega (arith, m .count))) (record { pairs = q .pairs; batches = q .batches })
   roomy-facts (working quiet (works v l p work e shaped)) =
-      after-side v p _ l e (worked-roomy (wd .journal) (wd .current) (wd .limit) v (sideAt v wd) p (r .limit) (r .reached .each v l) (r .each v l) work)
+      after-side v p _ l e (worked-roomy (wd .journal) (wd .current) (wd .limit) v (sideAt v wd) p (r .limit) (r .reached .each v l)
+      (r .each v l) work)
   roomy-facts (dropping v same done l e shaped) =
       let q = r .each v l in
       after-side v _ _ l e (record { pairs = q .pairs; batches = q .batches })
@@ -201,7 +206,8 @@ unfolding ackRule
 ack-limit w l wd false = refl
 ack-limit w [] wd true = refl
 ack-limit w (a ∷ l) wd true =
-    calledThen-limit (ackRule (numbersIn wd) w (a .term) (a .index) (playerIn wd)) (λ x. withSide w (withLines (sideAt w x .line) l (sideAt w x)) x) wd (λ x. refl)
+    calledThen-limit (ackRule (numbersIn wd) w (a .term) (a .index) (playerIn wd))
+    (λ x. withSide w (withLines (sideAt w x .line) l (sideAt w x)) x) wd (λ x. refl)
     ∙ operate-limit (numbersIn wd) w (λ v. ackAt (a .term) (a .index) v) (playerIn wd)
 
 step-limit : (wd : World) (s : W.Step) → scripted s ≡ true → W.step s wd .world .limit ≡ wd .limit
@@ -218,8 +224,10 @@ step-limit wd (W.ack w) e = ack-limit w (sideAt w wd .back) wd (ltb w (length (w
 step-limit wd (W.late-ack w t i) e = absurd (false≢true e)
 step-limit wd (W.drop w) e = operate-limit (numbersIn wd) w _ (playerIn wd)
 step-limit wd (W.join w) e =
-    calledThen-limit (joinRule (numbersIn wd) w (sideAt w wd .record′ .last .0) (playerIn wd)) (λ x. withSide w (cleared (sideAt w x)) x) wd (λ x. refl)
-    ∙ operate-limit (numbersIn wd) w (λ v. joinAt (entriesOf (numbersIn wd)) w (wd .current) (sideAt w wd .record′ .last .0) v) (playerIn wd)
+    calledThen-limit (joinRule (numbersIn wd) w (sideAt w wd .record′ .last .0) (playerIn wd))
+    (λ x. withSide w (cleared (sideAt w x)) x) wd (λ x. refl)
+    ∙ operate-limit (numbersIn wd) w (λ v. joinAt (entriesOf (numbersIn wd)) w (wd .current) (sideAt w wd .record′ .last .0) v)
+    (playerIn wd)
 step-limit wd (W.start b) e = absurd (false≢true e)
 step-limit wd (W.append x) e = absurd (false≢true e)
 
@@ -249,7 +257,8 @@ unfolding opened
 roomy-opened before j count done = record {
   reached = opened-reached before j count 2 done;
   limit =
-      let d : firstStart before j count 2 .next .limit ≡ 2 = ap (λ q. q .limit) (startRule-done (numbersOf j) count 2 (replicate count 0) before done .next) in
+      let d : firstStart before j count 2 .next .limit ≡ 2
+      = ap (λ q. q .limit) (startRule-done (numbersOf j) count 2 (replicate count 0) before done .next) in
       rw d (omega arith);
   each = λ w h. subst⁻¹ RoomySide (List·getD-map newSide (firstStart before j count 2 .next .windows) w noWindow) (roomy-new _);
 }

@@ -29,16 +29,16 @@ use Rattle.script.specs.declared.line.Line.{Line}
 use Rattle.script.specs.declared.settle.Settled.{Settled}
 use Rattle.script.specs.declared.Stage.{Stage}
 use Rattle.script.specs.declared.Reply.the-variants.{Answered, Empty}
-use Rattle.script.specs.Line.{noAck, sentOf, ackOf, sentIn, acksIn, freshLine, AckedOff, sentIn-none, acksIn-none, acksIn-first}
-use Rattle.script.specs.Stage.{sideOf, worldOf, forget, forgotten, stepIn, recordAt, lineAt}
+use Rattle.script.specs.Line.{noAck, worldSent, worldAck, sentIn, acksIn, freshLine, AckedOff, sentIn-none, acksIn-none, acksIn-first}
+use Rattle.script.specs.Stage.{sideOf, worldOf, forget, forgotten, stepIn, recordIn, lineIn}
 use Rattle.script.specs.Promise.{Steps}
 use Rattle.script.specs.Stored.{slotIn, outcomeAt, settledAs, Relined, storedBy}
 use Rattle.script.specs.Worlds.{playerOf-count, changed, worldOf-forgotten, worldOf-count, Staged, worldOf-side, worldOf-turned}
 use Rattle.script.specs.Calls.{steps-as, rule-here}
 
 -- a line that is not empty is a window's
-pub lineAt-within : (s : Stage) (w : ℕ) (size : Line → ℕ) → size freshLine ≡ 0 → 0 < size (lineAt w s) → w < s .player .count
-lineAt-within s w size none some = by (ltb w (s .player .count)) refl
+pub lineIn-within : (s : Stage) (w : ℕ) (size : Line → ℕ) → size freshLine ≡ 0 → 0 < size (lineIn w s) → w < s .player .count
+lineIn-within s w size none some = by (ltb w (s .player .count)) refl
   where
     by : (b : Bool) → ltb w (s .player .count) ≡ b → w < s .player .count
     by true e = ltb-true _ _ e
@@ -49,7 +49,7 @@ pub record Turned (j : List Entry) (s : Stage) (w : ℕ) (o : Outcome) (g : Side
   pub within : w < s .player .count
   pub view : WindowView
   pub next : o .next ≡ withWindow w view (playerOf (s .player))
-  pub side : sideOf view (recordAt w s) l ≡ forget (g (withView view (sideAt w (worldOf j s))))
+  pub side : sideOf view (recordIn w s) l ≡ forget (g (withView view (sideAt w (worldOf j s))))
 
 module _ (j : List Entry) (s : Stage) (h : Staged s) where
   abbrev wd : World
@@ -58,21 +58,21 @@ module _ (j : List Entry) (s : Stage) (h : Staged s) where
   -- ------------------------------------------------------------------------
   -- a window's side
 
-  record-here : (w : ℕ) → sideAt w wd .record′ ≡ recordAt w s
+  record-here : (w : ℕ) → sideAt w wd .record′ ≡ recordIn w s
   record-here w = ap (λ p. p .record′) (worldOf-side j s h w)
 
-  pub line-here : (w : ℕ) → sideAt w wd .line ≡ map sentOf (sentIn (lineAt w s .entries))
+  pub line-here : (w : ℕ) → sideAt w wd .line ≡ map worldSent (sentIn (lineIn w s .entries))
   line-here w = ap (λ p. p .line) (worldOf-side j s h w)
 
-  pub back-here : (w : ℕ) → sideAt w wd .back ≡ map ackOf (acksIn (lineAt w s .acks))
+  pub back-here : (w : ℕ) → sideAt w wd .back ≡ map worldAck (acksIn (lineIn w s .acks))
   back-here w = ap (λ p. p .back) (worldOf-side j s h w)
 
   -- other lines, as the stage shows them
   pub lines-side : (w : ℕ) (v : WindowView) (l : Line) (a : List W.Sent) (b : List W.Ack) →
-      map sentOf (sentIn (l .entries)) ≡ a → map ackOf (acksIn (l .acks)) ≡ b →
-      sideOf v (recordAt w s) l ≡ forget (withLines a b (withView v (sideAt w wd)))
+      map worldSent (sentIn (l .entries)) ≡ a → map worldAck (acksIn (l .acks)) ≡ b →
+      sideOf v (recordIn w s) l ≡ forget (withLines a b (withView v (sideAt w wd)))
   lines-side w v l a b is are =
-      ap₂ (λ a b. record { view = v; record′ = recordAt w s; line = a; back = b; taken = [] }) is are
+      ap₂ (λ a b. record { view = v; record′ = recordIn w s; line = a; back = b; taken = [] }) is are
       ∙ ap (λ r. record { view = v; record′ = r; line = a; back = b; taken = [] }) (sym (record-here w))
 
   -- ------------------------------------------------------------------------
@@ -89,21 +89,21 @@ module _ (j : List Entry) (s : Stage) (h : Staged s) where
       by true e = steps-as j s st (W.stays W.empty wd) _ e refl (sym (worldOf-forgotten j s))
       by false e = steps-as j s st (W.stays (answered 2) wd) _ e refl (sym (worldOf-forgotten j s))
 
-  pub take-nothing : (w : ℕ) → lineAt w s .entries .len ≡ 0 →
+  pub take-nothing : (w : ℕ) → lineIn w s .entries .len ≡ 0 →
       Steps j s (At Take w) (record { reply = cond (ltb w (s .player .count)) Empty (Answered 2); stage = s })
   unfolding W.step
   take-nothing w none =
       nothing-steps (At Take w) w
       (ap (λ l. cond (ltb w (length (wd .sides))) (takeAtLine w l wd) (W.stays (answered 2) wd))
-      (line-here w ∙ ap (map sentOf) (sentIn-none (lineAt w s .entries) none)))
+      (line-here w ∙ ap (map worldSent) (sentIn-none (lineIn w s .entries) none)))
 
-  pub ack-nothing : (w : ℕ) → lineAt w s .acks .len ≡ 0 →
+  pub ack-nothing : (w : ℕ) → lineIn w s .acks .len ≡ 0 →
       Steps j s (At Ack w) (record { reply = cond (ltb w (s .player .count)) Empty (Answered 2); stage = s })
   unfolding W.step
   ack-nothing w none =
       nothing-steps (At Ack w) w
       (ap (λ l. cond (ltb w (length (wd .sides))) (ackAtLine w l wd) (W.stays (answered 2) wd))
-      (back-here w ∙ ap (map ackOf) (acksIn-none (lineAt w s .acks) none)))
+      (back-here w ∙ ap (map worldAck) (acksIn-none (lineIn w s .acks) none)))
 
   -- ------------------------------------------------------------------------
   -- a call answered 0 that changes a line
@@ -134,13 +134,13 @@ module _ (ns : List ℕ) (s : Stage) (h : Staged s) (e : inShape ns ≡ true) (w
   join-calls =
       ap (λ own. calledThen (joinRule (numbersIn here) w (own .last .0) (playerIn here)) (changed w cleared) here)
       (record-here (entriesOf ns) s h w)
-      ∙ ap (λ o. calledThen o (changed w cleared) here) (rule-here ns s h e (λ n p. joinRule n w (recordAt w s .last .0) p))
+      ∙ ap (λ o. calledThen o (changed w cleared) here) (rule-here ns s h e (λ n p. joinRule n w (recordIn w s .last .0) p))
 
   pub join-steps : (r : Played) (x : Settled) → Meets (s .player) r (outcomeAt ns (s .player) (slotIn w s) (At Join w)) →
       numberOf (r .answer) ≡ 0 → x ≡ settledAs (slotIn w s) freshLine → Steps (entriesOf ns) s (At Join w) (storedBy s w (r .player) x)
   unfolding sentIn acksIn front
   join-steps r x k zero own =
-      let d = joinRule-done ns w (recordAt w s .last .0) player (sym (k .answer) ∙ zero) in
+      let d = joinRule-done ns w (recordIn w s .last .0) player (sym (k .answer) ∙ zero) in
       rw own
       (turned-steps (entriesOf ns) s h (At Join w) w r _ (settledAs (slotIn w s) freshLine) cleared join-calls k zero refl
       (record {
@@ -151,38 +151,38 @@ module _ (ns : List ℕ) (s : Stage) (h : Staged s) (e : inShape ns ≡ true) (w
       }))
 
   -- Ack with the front ack, and the line without it
-  module _ (some : 0 < lineAt w s .acks .len) where
+  module _ (some : 0 < lineIn w s .acks .len) where
     abbrev rest : List W.Ack
-    rest = map ackOf (drop 1 (acksIn (lineAt w s .acks)))
+    rest = map worldAck (drop 1 (acksIn (lineIn w s .acks)))
 
-    abbrev pub acked : Side → Side
-    acked p = withLines (p .line) rest p
+    abbrev pub withoutAck : Side → Side
+    withoutAck p = withLines (p .line) rest p
 
     within : w < s .player .count
-    within = lineAt-within s w (λ l. l .acks .len) refl some
+    within = lineIn-within s w (λ l. l .acks .len) refl some
 
-    first : acksIn (lineAt w s .acks) ≡ getD (lineAt w s .acks .cells) 0 noAck ∷ drop 1 (acksIn (lineAt w s .acks))
-    first = acksIn-first (lineAt w s .acks) _ some refl
+    first : acksIn (lineIn w s .acks) ≡ getD (lineIn w s .acks .cells) 0 noAck ∷ drop 1 (acksIn (lineIn w s .acks))
+    first = acksIn-first (lineIn w s .acks) _ some refl
 
     pub ack-calls : W.step (stepIn here (At Ack w)) here
-        ≡ calledThen (outcomeAt ns (s .player) (slotIn w s) (At Ack w)) (changed w acked) here
+        ≡ calledThen (outcomeAt ns (s .player) (slotIn w s) (At Ack w)) (changed w withoutAck) here
     unfolding W.step
     ack-calls =
         let ack : declared.Ack = slotIn w s .ack in
         simp (lt-ltb w (length (here .sides)) (omega (arith, within, worldOf-count (entriesOf ns) s)))
-        (ap (λ b. ackAtLine w b here) (back-here (entriesOf ns) s h w ∙ ap (map ackOf) first))
-        ∙ ap (λ o. calledThen o (changed w acked) here) (rule-here ns s h e (λ n p. ackRule n w (ack .term) (ack .index .0) p))
+        (ap (λ b. ackAtLine w b here) (back-here (entriesOf ns) s h w ∙ ap (map worldAck) first))
+        ∙ ap (λ o. calledThen o (changed w withoutAck) here) (rule-here ns s h e (λ n p. ackRule n w (ack .term) (ack .index .0) p))
 
     pub ack-steps : (r : Played) (x : Settled) → Meets (s .player) r (outcomeAt ns (s .player) (slotIn w s) (At Ack w)) →
-        numberOf (r .answer) ≡ 0 → Relined (slotIn w s) (AckedOff (lineAt w s)) x →
+        numberOf (r .answer) ≡ 0 → Relined (slotIn w s) (AckedOff (lineIn w s)) x →
         Steps (entriesOf ns) s (At Ack w) (storedBy s w (r .player) x)
     ack-steps r x k zero own =
         let j : List Entry = entriesOf ns in
-        turned-steps j s h (At Ack w) w r _ x acked ack-calls k zero (own .is)
+        turned-steps j s h (At Ack w) w r _ x withoutAck ack-calls k zero (own .is)
         (record {
           within = within;
           view = _;
           next = ackRule-done ns w _ _ player (sym (k .answer) ∙ zero) .next;
           side = lines-side j s h w _ (x .line) (sideAt w here .line) rest
-              (ap (λ e. map sentOf (sentIn e)) (own .line .entries) ∙ sym (line-here j s h w)) (ap (map ackOf) (own .line .acks));
+              (ap (λ e. map worldSent (sentIn e)) (own .line .entries) ∙ sym (line-here j s h w)) (ap (map worldAck) (own .line .acks));
         })

@@ -15,7 +15,8 @@ use Rattle.record.specs.Record.{takeNumbers}
 use Rattle.rules.specs.View.{PlayerView}
 use Rattle.rules.specs.Offers.{shaped}
 use Rattle.rules.specs.Rules.{Outcome, mainRule, catchRule, writtenRule, ackRule, dropRule, joinRule, sendRule, batchAt}
-use Rattle.delivery.specs.World.{Sent, Ack, Side, World, noSide, sideAt, numbersIn, playerIn, withLines, withPlayer, withSide, onLine, takeFront, answered, called, calledThen, launch, takeAtLine, ackAtLine, cleared}
+use Rattle.delivery.specs.World.{Sent, Ack, Side, World, noSide, sideAt, numbersIn, playerIn, withLines, withPlayer, withSide, onLine}
+use Rattle.delivery.specs.World.{takeFront, answered, called, calledThen, launch, takeAtLine, ackAtLine, cleared}
 use Rattle.delivery.specs.World as W
 use Rattle.delivery.specs.Worlds.{windows-in}
 use Rattle.script.specs.declared.Stage.{Stage}
@@ -23,10 +24,10 @@ use Rattle.script_line.specs.declared.Step.{Step}
 use Rattle.script_line.specs.declared.Step.the-variants.{Main, At}
 use Rattle.script_line.specs.declared.Verb.the-variants.{Catch, Send, Written, Ack as AckVerb, Drop, Join, Take}
 use Rattle.script.specs.declared.Stepped.{Stepped}
-use Rattle.script.specs.Stage.{worldOf, forget, forgotten, dueIn, stepIn, replyOf, windowOf, lineAt, fits}
+use Rattle.script.specs.Stage.{worldOf, forget, forgotten, dueIn, stepIn, replyOf, windowOf, lineIn, stageFits}
 use Rattle.script.specs.Promise.{Steps, Plays}
 use Rattle.script.specs.declared.line.Line.{Line}
-use Rattle.script.specs.Line.{sentOf, ackOf, sentIn, acksIn, sentIn-length, acksIn-length}
+use Rattle.script.specs.Line.{worldSent, worldAck, sentIn, acksIn, sentIn-length, acksIn-length}
 use Rattle.script.specs.Sides.{forgotten-player, forgotten-side}
 use Rattle.script.specs.Worlds.{worldOf-count, Staged, worldOf-side}
 use Rattle.script.specs.Room.{Roomy, roomy-line}
@@ -48,7 +49,8 @@ forgotten-in wd = ap (λ vs. record { limit = wd .limit; current = wd .current; 
 
 forgotten-twice : (wd : World) → forgotten (forgotten wd) ≡ forgotten wd
 unfolding forgotten
-forgotten-twice wd = ap (λ ps. record { journal = wd .journal; limit = wd .limit; current = wd .current; sides = ps }) (forget-twice (wd .sides))
+forgotten-twice wd =
+    ap (λ ps. record { journal = wd .journal; limit = wd .limit; current = wd .current; sides = ps }) (forget-twice (wd .sides))
 
 pub forgotten-at : (w : ℕ) (wd : World) → sideAt w (forgotten wd) ≡ forget (sideAt w wd)
 unfolding forgotten
@@ -116,13 +118,15 @@ unfolding forgotten
 ack-alike w wd [] = alike-stays W.empty wd
 ack-alike w wd (a ∷ l) =
     let f : World → World = λ x. withSide w (withLines (sideAt w x .line) l (sideAt w x)) x in
-    alike-then (λ p. ackRule (numbersIn wd) w (a .term) (a .index) p) f f wd (λ x. side-alike w (λ p. withLines (p .line) l p) (λ p. withLines (p .line) l p) x refl)
+    alike-then (λ p. ackRule (numbersIn wd) w (a .term) (a .index) p) f f wd
+    (λ x. side-alike w (λ p. withLines (p .line) l p) (λ p. withLines (p .line) l p) x refl)
 
 -- below W by the line, from W up answered 2
 line-alike : (r : W.Reply) (wd : World) (w : ℕ) (a b : W.Stepped) → Alike a b →
     Alike (cond (ltb w (length (forgotten wd .sides))) a (W.stays r (forgotten wd))) (cond (ltb w (length (wd .sides))) b (W.stays r wd))
 line-alike r wd w a b same =
-    subst⁻¹ (λ n. Alike (cond (ltb w n) a (W.stays r (forgotten wd))) (cond (ltb w (length (wd .sides))) b (W.stays r wd))) (forgotten-count wd)
+    subst⁻¹ (λ n. Alike (cond (ltb w n) a (W.stays r (forgotten wd))) (cond (ltb w (length (wd .sides))) b (W.stays r wd)))
+    (forgotten-count wd)
     (by (ltb w (length (wd .sides))))
   where
     by : (t : Bool) → Alike (cond t a (W.stays r (forgotten wd))) (cond t b (W.stays r wd))
@@ -133,13 +137,15 @@ pub step-alike : (wd : World) (s : Step) → Alike (W.step (stepIn (forgotten wd
 unfolding W.step forgotten
 step-alike wd Main = alike-called (λ p. mainRule (numbersIn wd) (wd .current + 1) p) wd
 step-alike wd (At Catch w) =
-    subst⁻¹ (λ x. Alike (W.step (W.catch w (x .view .term) (dueIn (x .view .condition))) (forgotten wd)) (W.step (stepIn wd (At Catch w)) wd)) (forgotten-at w wd)
+    subst⁻¹ (λ x. Alike (W.step (W.catch w (x .view .term) (dueIn (x .view .condition))) (forgotten wd)) (W.step (stepIn wd (At Catch w)) wd))
+    (forgotten-at w wd)
     (alike-called (λ p. catchRule (numbersIn wd) w (sideAt w wd .view .term) (dueIn (sideAt w wd .view .condition)) p) wd)
 step-alike wd (At Send w) =
     alike-then (λ p. sendRule (numbersIn wd) w 10 p) (launch w (forgotten wd)) (launch w wd) wd
     (λ x.
     side-alike w
-    (λ p. withLines (p .line ++ onLine (wd .journal) (sideAt w (forgotten wd) .view .term) (batchAt w (playerIn (forgotten wd)))) (p .back) p)
+    (λ p. withLines (p .line ++ onLine (wd .journal) (sideAt w (forgotten wd) .view .term) (batchAt w (playerIn (forgotten wd))))
+    (p .back) p)
     (λ p. withLines (p .line ++ onLine (wd .journal) (sideAt w wd .view .term) (batchAt w (playerIn wd))) (p .back) p) x
     (ap₂ (λ t is. forget (withLines (sideAt w x .line ++ onLine (wd .journal) t is) (sideAt w x .back) (sideAt w x)))
     (ap (λ p. p .view .term) (forgotten-at w wd)) (ap (batchAt w) (forgotten-in wd))))
@@ -148,16 +154,19 @@ step-alike wd (At Written w) =
     (alike-called (λ p. writtenRule (numbersIn wd) w (sideAt w wd .view .term) p) wd)
 step-alike wd (At AckVerb w) =
     line-alike (answered 2) wd w _ _
-    (subst⁻¹ (λ x. Alike (ackAtLine w (x .back) (forgotten wd)) (ackAtLine w (sideAt w wd .back) wd)) (forgotten-at w wd) (ack-alike w wd (sideAt w wd .back)))
+    (subst⁻¹ (λ x. Alike (ackAtLine w (x .back) (forgotten wd)) (ackAtLine w (sideAt w wd .back) wd)) (forgotten-at w wd)
+    (ack-alike w wd (sideAt w wd .back)))
 step-alike wd (At Drop w) = alike-called (λ p. dropRule (numbersIn wd) w p) wd
 step-alike wd (At Join w) =
-    subst⁻¹ (λ x. Alike (calledThen (joinRule (numbersIn wd) w (x .record′ .last .0) (playerIn (forgotten wd))) (λ y. withSide w (cleared (sideAt w y)) y) (forgotten wd))
+    subst⁻¹ (λ x. Alike (calledThen (joinRule (numbersIn wd) w (x .record′ .last .0) (playerIn (forgotten wd)))
+    (λ y. withSide w (cleared (sideAt w y)) y) (forgotten wd))
     (W.step (stepIn wd (At Join w)) wd)) (forgotten-at w wd)
     (alike-then (λ p. joinRule (numbersIn wd) w (sideAt w wd .record′ .last .0) p) (λ y. withSide w (cleared (sideAt w y)) y)
     (λ y. withSide w (cleared (sideAt w y)) y) wd (λ x. side-alike w cleared cleared x refl))
 step-alike wd (At Take w) =
     line-alike (answered 2) wd w _ _
-    (subst⁻¹ (λ x. Alike (takeAtLine w (x .line) (forgotten wd)) (takeAtLine w (sideAt w wd .line) wd)) (forgotten-at w wd) (take-alike w wd (sideAt w wd .line)))
+    (subst⁻¹ (λ x. Alike (takeAtLine w (x .line) (forgotten wd)) (takeAtLine w (sideAt w wd .line) wd)) (forgotten-at w wd)
+    (take-alike w wd (sideAt w wd .line)))
 
 -- ------------------------------------------------------------------------
 -- a stage that shows a world
@@ -174,7 +183,7 @@ module _ (j : List Entry) (s : Stage) (wd : World) (shows : worldOf j s ≡ forg
   shown-count : s .player .count ≡ length (wd .sides)
   shown-count = sym (worldOf-count j s) ∙ ap (λ x. length (x .sides)) shows ∙ forgotten-count wd
 
-  -- where the world has room, every step fits
+  -- where the world has room, every step stageFits
   module _ (r : Roomy wd) (records : length (s .records) ≡ 16) (lines : length (s .lines) ≡ 16) where
     pub shown-few : s .player .count ≤ 16
     shown-few = omega (arith, shown-count, shaped (numbersIn wd) (playerIn wd) (r .reached .inShape) .most, windows-in wd)
@@ -189,28 +198,29 @@ module _ (j : List Entry) (s : Stage) (wd : World) (shows : worldOf j s ≡ forg
         below l = roomy-line (sideAt w wd) (r .each w l)
 
     -- the line of a window is as long as its side says
-    shown-lines : (w : ℕ) → (lineAt w s .entries .len ≡ length (sideAt w wd .line)) × (lineAt w s .acks .len ≡ length (sideAt w wd .back))
+    shown-lines : (w : ℕ) → (lineIn w s .entries .len ≡ length (sideAt w wd .line)) × (lineIn w s .acks .len ≡ length (sideAt w wd .back))
     shown-lines w =
-        let l : Line = lineAt w s in
+        let l : Line = lineIn w s in
         let held : Staged s = record { few = shown-few; records = records; lines = lines } in
         let same = sym (worldOf-side j s held w) ∙ ap (sideAt w) shows ∙ forgotten-at w wd in (
-          sym (sentIn-length (l .entries)) ∙ sym (length-map (sentIn (l .entries)) sentOf) ∙ ap (λ p. length (p .line)) same,
-          sym (acksIn-length (l .acks)) ∙ sym (length-map (acksIn (l .acks)) ackOf) ∙ ap (λ p. length (p .back)) same,
+          sym (sentIn-length (l .entries)) ∙ sym (length-map (sentIn (l .entries)) worldSent) ∙ ap (λ p. length (p .line)) same,
+          sym (acksIn-length (l .acks)) ∙ sym (length-map (acksIn (l .acks)) worldAck) ∙ ap (λ p. length (p .back)) same,
         )
 
-    pub shown-fits : (st : Step) → fits s st ≡ true
+    pub shown-fits : (st : Step) → stageFits s st ≡ true
     shown-fits st =
         let w : ℕ = windowOf st in
         let sizes = shown-lines w in
         let room = shown-room w in
         and-intro (le-leb (s .player .count) 16 shown-few)
-        (and-intro (le-leb (lineAt w s .entries .len) 16 (omega (arith, sizes .0, room .0)))
-        (le-leb (lineAt w s .acks .len) 8 (omega (arith, sizes .1, room .1))))
+        (and-intro (le-leb (lineIn w s .entries .len) 16 (omega (arith, sizes .0, room .0)))
+        (le-leb (lineIn w s .acks .len) 8 (omega (arith, sizes .1, room .1))))
 
 -- A result to be read: so a stage that shows a world with room plays every step as that world does
 pub shown-plays : (ns : List ℕ) (s : Stage) (wd : World) (st : Step) (r : Stepped) → inShape ns ≡ true →
     worldOf (entriesOf ns) s ≡ forgotten wd → Roomy wd →
     length (s .records) ≡ 16 → length (s .lines) ≡ 16 → Plays ns s st r →
-    (replyOf (r .reply) ≡ W.step (stepIn wd st) wd .reply) × (worldOf (entriesOf ns) (r .stage) ≡ forgotten (W.step (stepIn wd st) wd .world))
+    (replyOf (r .reply) ≡ W.step (stepIn wd st) wd .reply)
+    × (worldOf (entriesOf ns) (r .stage) ≡ forgotten (W.step (stepIn wd st) wd .world))
 shown-plays ns s wd st r e shows roomy records lines k =
     shown-step (entriesOf ns) s wd shows st r (k .played (and-intro e (shown-fits (entriesOf ns) s wd shows roomy records lines st)))

@@ -86,7 +86,8 @@ set-forget (x ∷ ps) (suc w) p = ap (λ l. forget x ∷ l) (set-forget ps w p)
 pub forgotten-player : (q : PlayerView) (wd : World) → forgotten (withPlayer q wd) ≡ withPlayer q (forgotten wd)
 unfolding forgotten withPlayer
 forgotten-player q wd =
-    ap (λ ps. record { journal = wd .journal; limit = q .limit; current = q .current; sides = ps }) (withViews-forget (q .windows) (wd .sides))
+    ap (λ ps. record { journal = wd .journal; limit = q .limit; current = q .current; sides = ps })
+    (withViews-forget (q .windows) (wd .sides))
 
 pub forgotten-side : (w : ℕ) (p : Side) (wd : World) → forgotten (withSide w p wd) ≡ withSide w (forget p) (forgotten wd)
 unfolding forgotten

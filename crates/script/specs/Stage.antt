@@ -18,7 +18,7 @@ use Rattle.script.specs.declared.line.Line.{Line}
 use Rattle.script.specs.declared.Stage.{Stage}
 use Rattle.script.specs.declared.Reply.{Reply}
 use Rattle.script.specs.declared.Reply.the-variants.{Answered, Empty}
-use Rattle.script.specs.Line.{sentOf, ackOf, sentIn, acksIn, freshLine}
+use Rattle.script.specs.Line.{worldSent, worldAck, sentIn, acksIn, freshLine}
 
 -- ------------------------------------------------------------------------
 -- The stage as a world. It keeps no history of what was taken.
@@ -28,8 +28,8 @@ abbrev pub sideOf : WindowView → Record → Line → Side
 sideOf v r l = record {
   view = v;
   record′ = r;
-  line = map sentOf (sentIn (l .entries));
-  back = map ackOf (acksIn (l .acks));
+  line = map worldSent (sentIn (l .entries));
+  back = map worldAck (acksIn (l .acks));
   taken = [];
 }
 
@@ -94,16 +94,16 @@ windowOf Main = 0
 windowOf (At verb w) = w
 
 -- the record and the line of window w; new where there is no such window
-abbrev pub recordAt : ℕ → Stage → Record
-recordAt w s = cond (ltb w (s .player .count)) (getD (s .records) w newRecord) newRecord
+abbrev pub recordIn : ℕ → Stage → Record
+recordIn w s = cond (ltb w (s .player .count)) (getD (s .records) w newRecord) newRecord
 
-abbrev pub lineAt : ℕ → Stage → Line
-lineAt w s = cond (ltb w (s .player .count)) (getD (s .lines) w freshLine) freshLine
+abbrev pub lineIn : ℕ → Stage → Line
+lineIn w s = cond (ltb w (s .player .count)) (getD (s .lines) w freshLine) freshLine
 
 -- at most 16 windows, and at most 16 entries and 8 acks on the line of window w, which is what a run can have there
 abbrev pub roomAt : Stage → ℕ → Bool
-roomAt s w = leb (s .player .count) 16 && (leb (lineAt w s .entries .len) 16 && leb (lineAt w s .acks .len) 8)
+roomAt s w = leb (s .player .count) 16 && (leb (lineIn w s .entries .len) 16 && leb (lineIn w s .acks .len) 8)
 
 -- and so for the window that a step names
-abbrev pub fits : Stage → Step → Bool
-fits s st = roomAt s (windowOf st)
+abbrev pub stageFits : Stage → Step → Bool
+stageFits s st = roomAt s (windowOf st)

@@ -26,7 +26,7 @@ use Rattle.script.specs.declared.Stage.{Stage}
 use Rattle.script.specs.declared.Reply.the-variants.{Answered, Empty}
 use Rattle.script.specs.declared.Stepped.{Stepped}
 use Rattle.script.specs.Line.{placedOf, noSent, noAck, freshLine, batchShown, Grown, TakenOff, AckedOff}
-use Rattle.script.specs.Stage.{dueIn, recordAt, lineAt}
+use Rattle.script.specs.Stage.{dueIn, recordIn, lineIn}
 
 -- ------------------------------------------------------------------------
 -- What a stage has for one window
@@ -58,9 +58,9 @@ slotIn w s = record {
   there = ltb w (s .player .count);
   term = windowAt w (playerOf (s .player)) .term;
   due = record { 0 = dueIn (windowAt w (playerOf (s .player)) .condition) };
-  «record» = recordAt w s;
-  line = lineAt w s;
-  ack = getD (lineAt w s .acks .cells) 0 noAck;
+  «record» = recordIn w s;
+  line = lineIn w s;
+  ack = getD (lineIn w s .acks .cells) 0 noAck;
 }
 
 -- ------------------------------------------------------------------------

@@ -25,57 +25,58 @@ use Rattle.script.specs.declared.line.Line.{Line}
 use Rattle.script.specs.declared.slot.Slot.{Slot}
 use Rattle.script.specs.declared.settle.Settled.{Settled}
 use Rattle.script.specs.declared.Stage.{Stage}
-use Rattle.script.specs.Line.{placedOf, noSent, sentOf, ackOf, sentIn, acksIn, ackFor, TakenOff, sentIn-first}
-use Rattle.script.specs.Stage.{sideOf, worldOf, forget, replyOf, lineAt}
+use Rattle.script.specs.Line.{placedOf, noSent, worldSent, worldAck, sentIn, acksIn, ackFor, TakenOff, sentIn-first}
+use Rattle.script.specs.Stage.{sideOf, worldOf, forget, replyOf, lineIn}
 use Rattle.script.specs.Promise.{Steps}
 use Rattle.script.specs.Stored.{slotIn, Takes, storedBy}
 use Rattle.script.specs.Worlds.{worldOf-count, worldOf-forgets, Staged, worldOf-side, worldOf-placed}
 use Rattle.script.specs.Calls.{steps-as}
-use Rattle.script.specs.Settled.{lineAt-within, line-here}
+use Rattle.script.specs.Settled.{lineIn-within, line-here}
 
 -- the window that is there changes nothing
 window-same : (w : ℕ) (p : PlayerView) → p ≡ withWindow w (windowAt w p) p
 window-same w p = sym (ap (λ vs. record { limit = p .limit; current = p .current; windows = vs }) (set-getD (p .windows) w noWindow))
 
 -- the acks once an entry is taken
-ackOf-taken : (x : Sent) (acks : List Ack) (b : Bool) →
-    map ackOf (cond b (acks ++ (ackFor x ∷ [])) acks) ≡ cond b (map ackOf acks ++ (ackOf (ackFor x) ∷ [])) (map ackOf acks)
-ackOf-taken x acks true = map-append ackOf acks (ackFor x ∷ [])
-ackOf-taken x acks false = refl
+worldAck-taken : (x : Sent) (acks : List Ack) (b : Bool) →
+    map worldAck (cond b (acks ++ (ackFor x ∷ [])) acks) ≡ cond b (map worldAck acks ++ (worldAck (ackFor x) ∷ [])) (map worldAck acks)
+worldAck-taken x acks true = map-append worldAck acks (ackFor x ∷ [])
+worldAck-taken x acks false = refl
 
 -- a window's side once its front entry is taken
 sideOf-taken : (v : WindowView) (x : Slot) (own : Record) (l : Line) (sent : Sent) (rest : List Sent) →
     sentIn (x .line .entries) ≡ sent ∷ rest →
     own ≡ takeNumbers (fiveOf (placedOf (sent .numbers))) (x .record) .record′ → TakenOff (x .line) sent l →
-    sideOf v own l ≡ forget (takeFront (sentOf sent) (map sentOf rest) (sideOf v (x .record) (x .line)))
+    sideOf v own l ≡ forget (takeFront (worldSent sent) (map worldSent rest) (sideOf v (x .record) (x .line)))
 unfolding takeFront
 sideOf-taken v x own l sent rest front o off =
     ap₂ (λ a b. record { view = v; record′ = own; line = a; back = b; taken = [] })
-    (ap (map sentOf) (off .entries ∙ ap (drop 1) front))
-    (ap (map ackOf) (off .acks) ∙ ackOf-taken sent (acksIn (x .line .acks)) (sent .ends))
+    (ap (map worldSent) (off .entries ∙ ap (drop 1) front))
+    (ap (map worldAck) (off .acks) ∙ worldAck-taken sent (acksIn (x .line .acks)) (sent .ends))
     ∙ ap (λ r. record {
       view = v;
       record′ = r;
-      line = map sentOf rest;
-      back = cond (sent .ends) (map ackOf (acksIn (x .line .acks)) ++ (ackOf (ackFor sent) ∷ [])) (map ackOf (acksIn (x .line .acks)));
+      line = map worldSent rest;
+      back = cond (sent .ends) (map worldAck (acksIn (x .line .acks)) ++ (worldAck (ackFor sent) ∷ []))
+          (map worldAck (acksIn (x .line .acks)));
       taken = [];
     }) o
 
 pub take-steps : (j : List Entry) (s : Stage) → Staged s → (w : ℕ) (p : Player) (r : Settled) → playerOf p ≡ playerOf (s .player) →
-    0 < lineAt w s .entries .len → Takes (slotIn w s) r → Steps j s (At Take w) (storedBy s w p r)
+    0 < lineIn w s .entries .len → Takes (slotIn w s) r → Steps j s (At Take w) (storedBy s w p r)
 unfolding W.step
 take-steps j s h w p r same some k =
     let wd : World = worldOf j s in
     let v : WindowView = windowAt w (playerOf (s .player)) in
-    let sent : Sent = getD (lineAt w s .entries .cells) 0 noSent in
-    let rest : List Sent = drop 1 (sentIn (lineAt w s .entries)) in
-    let front : sentIn (lineAt w s .entries) ≡ sent ∷ rest = sentIn-first (lineAt w s .entries) sent some refl in
-    let within : w < s .player .count = lineAt-within s w (λ l. l .entries .len) refl some in
+    let sent : Sent = getD (lineIn w s .entries .cells) 0 noSent in
+    let rest : List Sent = drop 1 (sentIn (lineIn w s .entries)) in
+    let front : sentIn (lineIn w s .entries) ≡ sent ∷ rest = sentIn-first (lineIn w s .entries) sent some refl in
+    let within : w < s .player .count = lineIn-within s w (λ l. l .entries .len) refl some in
     let there : w < length (wd .sides) = omega (arith, worldOf-count j s) in
-    let after : W.Side → W.Side = takeFront (sentOf sent) (map sentOf rest) in
+    let after : W.Side → W.Side = takeFront (worldSent sent) (map worldSent rest) in
     let own = worldOf-side j s h w in
-    steps-as j s (At Take w) (takeAtLine w (map sentOf (sent ∷ rest)) wd) (storedBy s w p r)
-    (simp (lt-ltb w (length (wd .sides)) there) (ap (λ b. takeAtLine w b wd) (line-here j s h w ∙ ap (map sentOf) front)))
+    steps-as j s (At Take w) (takeAtLine w (map worldSent (sent ∷ rest)) wd) (storedBy s w p r)
+    (simp (lt-ltb w (length (wd .sides)) there) (ap (λ b. takeAtLine w b wd) (line-here j s h w ∙ ap (map worldSent) front)))
     (ap replyOf (k .reply) ∙ ap (λ p. answered (takeNumbers (fiveOf (placedOf (sent .numbers))) (p .record′) .number)) (sym own))
     (worldOf-placed j s h w p v (r .record) (r .line) (same ∙ window-same w (playerOf (s .player)))
     ∙ ap (λ p. withSide w p wd)

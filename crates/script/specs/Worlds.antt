@@ -28,9 +28,10 @@ use Rattle.script.specs.declared.Stage.{Stage}
 use Rattle.lists.specs.Cells.{front}
 use Rattle.lists.specs.Set.{getD-any}
 use Rattle.script.specs.Line.{sentIn, acksIn, freshLine}
-use Rattle.script.specs.Stage.{sideOf, sidesOf, worldOf, forget, forgotten, recordAt, lineAt}
+use Rattle.script.specs.Stage.{sideOf, sidesOf, worldOf, forget, forgotten, recordIn, lineIn}
 use Rattle.script.specs.Stored.{absent, present, slotIn, storedAt}
-use Rattle.script.specs.Sides.{sidesOf-length, sidesOf-forget, sidesOf-views, sidesOf-at, sidesOf-set, sidesOf-with, forgotten-player, forgotten-side}
+use Rattle.script.specs.Sides.{sidesOf-length, sidesOf-forget, sidesOf-views, sidesOf-at, sidesOf-set, sidesOf-with}
+use Rattle.script.specs.Sides.{forgotten-player, forgotten-side}
 
 -- ------------------------------------------------------------------------
 -- the player
@@ -111,7 +112,7 @@ module _ (j : List Entry) (s : Stage) (h : Staged s) where
       (sidesOf-views (q .windows) (s .records) (s .lines) records-few lines-few)
 
   -- a window's side: what the player holds for it, its record and its line
-  pub worldOf-side : (w : ℕ) → sideAt w (worldOf j s) ≡ sideOf (windowAt w (playerOf (s .player))) (recordAt w s) (lineAt w s)
+  pub worldOf-side : (w : ℕ) → sideAt w (worldOf j s) ≡ sideOf (windowAt w (playerOf (s .player))) (recordIn w s) (lineIn w s)
   unfolding worldOf sentIn acksIn front
   worldOf-side w = by (ltb w (s .player .count)) refl
     where
@@ -150,11 +151,11 @@ module _ (j : List Entry) (s : Stage) (h : Staged s) where
     -- a turn of window w and another line for it, where the world changes the window's side so after that turn
     pub worldOf-turned : (p : Player) (q : PlayerView) (v : WindowView) (l : Line) (g : Side → Side) → w < s .player .count →
         playerOf p ≡ q →
-        q ≡ withWindow w v (playerOf (s .player)) → sideOf v (recordAt w s) l ≡ forget (g (withView v (sideAt w (worldOf j s)))) →
-        worldOf j (storedAt w p (recordAt w s) l s) ≡ forgotten (changed w g (withPlayer q (worldOf j s)))
+        q ≡ withWindow w v (playerOf (s .player)) → sideOf v (recordIn w s) l ≡ forget (g (withView v (sideAt w (worldOf j s)))) →
+        worldOf j (storedAt w p (recordIn w s) l s) ≡ forgotten (changed w g (withPlayer q (worldOf j s)))
     worldOf-turned p q v l g here is turn same =
         let wd : World = worldOf j s in
-        worldOf-placed p v (recordAt w s) l (is ∙ turn)
+        worldOf-placed p v (recordIn w s) l (is ∙ turn)
         ∙ ap (λ x. withSide w x wd) same
         ∙ sym (worldOf-forgets j s w (g (withView v (sideAt w wd))))
         ∙ sym (ap forgotten (changed-turn w g v q wd (omega (arith, worldOf-count j s)) (turn ∙ ap (withWindow w v) (sym worldOf-player))))
@@ -190,6 +191,6 @@ slotIn-of s h windows w x r l = by (ltb w (s .player .count)) refl
 
 -- what is there stored again
 pub storedAt-same : (s : Stage) (w : ℕ) (p : Player) → w < s .player .count →
-    storedAt w p (recordAt w s) (lineAt w s) s ≡ record { player = p; records = s .records; lines = s .lines }
+    storedAt w p (recordIn w s) (lineIn w s) s ≡ record { player = p; records = s .records; lines = s .lines }
 storedAt-same s w p here =
     rw (lt-ltb w (s .player .count) here, set-getD (s .records) w newRecord, set-getD (s .lines) w freshLine)

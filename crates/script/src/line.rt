@@ -5,7 +5,8 @@ ghost use Prim.Native.Nat.{_+_, _≤_, _<_};
 ghost use mathlib.Core.Path.{_≡_};
 ghost use mathlib.Core.List.{[], _∷_, _++_};
 ghost use lib.ListN.{length, getD, drop};
-ghost use Rattle.script.specs.Line.{noSent, noAck, freshEntries, freshAcks, freshLine, sentIn, acksIn, fiveAt, batchShown, Longer, Grown, TakenOff, AckedOff};
+ghost use Rattle.script.specs.Line.{noSent, noAck, freshEntries, freshAcks, freshLine, sentIn, acksIn, fiveAt, batchShown, Longer};
+ghost use Rattle.script.specs.Line.{Grown, TakenOff, AckedOff};
 
 // An entry on its way: its five numbers, the term of its batch, and whether it is the batch's last.
 pub struct Sent {

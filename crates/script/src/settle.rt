@@ -61,8 +61,8 @@ impl Slot {
         }
     }
 
-    // What a step leaves whose call is answered 0: Send puts the batch that it wrote on the line, Ack takes its ack off it, Join empties it,
-    // and Take takes the front entry.
+    // What a step leaves whose call is answered 0: Send puts the batch that it wrote on the line, Ack takes its ack off it, Join empties
+    // it, and Take takes the front entry.
     pub(crate) fn settled(self, step: Step, out: [u32; 10]) -> Settled
         requires { ⌜ (self .line .entries .len ≤ 16) × (self .line .acks .len ≤ 8) ⌝ }
         ensures { λ r. ⌜ Settles self step out r ⌝ }

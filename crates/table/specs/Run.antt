@@ -14,7 +14,7 @@ use Rattle.script_line.specs.declared.Step.the-variants.{Main, At}
 use Rattle.script_line.specs.declared.Verb.the-variants.{Catch, Send, Drop, Join, Take}
 use Rattle.script.specs.declared.Stage.{Stage}
 use Rattle.script.specs.declared.Reply.{Reply}
-use Rattle.script.specs.Stage.{stepsIn, replyOf, recordAt}
+use Rattle.script.specs.Stage.{stepsIn, replyOf, recordIn}
 use Rattle.script.specs.Opening.{openingAnswer, openedBy}
 use Rattle.script.specs.Delivered.{Script, script-runs}
 
@@ -52,7 +52,7 @@ row-a before = record { answers = refl; window0 = refl; window1 = refl }
 pub record StageA : Type 0 where
   pub ok : openedBy (numbersOf afternoon) 2 .ok ≡ true
   pub prints : (rs : List Reply) (t : Stage) → Script (numbersOf afternoon) (openedBy (numbersOf afternoon) 2 .stage) afternoonSteps rs t →
-      PrintsA (map replyOf rs) (recordAt 0 t) (recordAt 1 t)
+      PrintsA (map replyOf rs) (recordIn 0 t) (recordIn 1 t)
 
 opened-a : openedBy (numbersOf afternoon) 2 .ok ≡ true
 unfolding computed openingAnswer

@@ -132,7 +132,8 @@ returns : tie.Need-returns
 returns c =
     let at = c .before .before .before .before in
     let is = start at .good .0 in
-    early-plays (numbers at) (stage at) (asked at) (at .if1 .slot) (slotted at) _ (records-length (stage at) _ is) (lines-length (stage at) _ is)
+    early-plays (numbers at) (stage at) (asked at) (at .if1 .slot) (slotted at) _
+    (records-length (stage at) _ is) (lines-length (stage at) _ is)
     (sym (c .before .before .before .early .ensures) ∙ c .before .reply .given .1)
 
 enum-told : tie.Need-enum-told

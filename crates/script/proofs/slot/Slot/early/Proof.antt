@@ -20,7 +20,8 @@ fitting c =
     let few = c .before .before in
     let shape = few .before in
     and-intro (sym (shape .before .in-shape .ensures) ∙ not-false _ (shape .if1 .left))
-    (and-intro (le-leb (args .count) 16 (ltb-false 16 (args .count) (few .if2 .left))) (sym (c .before .has-room .ensures) ∙ not-false _ (c .if3 .left)))
+    (and-intro (le-leb (args .count) 16 (ltb-false 16 (args .count) (few .if2 .left)))
+    (sym (c .before .has-room .ensures) ∙ not-false _ (c .if3 .left)))
 
 in-shape-requires : tie.Need-in-shape-requires
 in-shape-requires c κs = search needs
@@ -35,7 +36,8 @@ returns c =
     let stuck : false ≡ (inShape (args .journal .now) && (leb (args .count) 16 && hasRoom (args .self))) =
     ⊎-elim (λ x. and-failed _ is (x .taken))
     (⊎-elim (λ x. and-passed is (x .0 .left) (and-off _ (lt-leb (args .count) 16 (ltb-true 16 (args .count) (x .1 .taken)))))
-    (λ x. and-passed is (x .0 .left) (and-on (le-leb (args .count) 16 (ltb-false 16 (args .count) (x .1 .left))) (sym (not-true _ (x .3 .taken)) ∙ x .2 .ensures))))
+    (λ x. and-passed is (x .0 .left) (and-on (le-leb (args .count) 16 (ltb-false 16 (args .count) (x .1 .left)))
+    (sym (not-true _ (x .3 .taken)) ∙ x .2 .ensures))))
     (c .if1 .came) in
     rw (sym stuck)
 

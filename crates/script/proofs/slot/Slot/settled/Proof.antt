@@ -88,7 +88,8 @@ returns-6 c = rw (c .before .before .before .before .step .given .1, c .before .
 
 returns-7 : tie.Need-returns-7
 returns-7 c =
-    rw (c .before .before .before .before .before .step .given .1, c .before .before .enum-told7 .given .1, c .with-line7 .ensures, c .before .new .ensures)
+    let told = c .before .before in
+    rw (told .before .before .before .step .given .1, told .enum-told7 .given .1, c .with-line7 .ensures, c .before .new .ensures)
 
 returns-8 : tie.Need-returns-8
 returns-8 c = rw (c .before .before .before .before .step .given .1, c .before .enum-told8 .given .1) (c .taken .ensures)
