@@ -11,22 +11,22 @@ use lib.ListN.{length, drop, getD, drop-of-length-le, length-drop}
 use lib.Seq.{drop-cons, getD-drop}
 use lib.Dec.{eqb}
 use borrow.Author.Tests.{le-leb, lt-leb, eq-eqb, ne-eqb}
-use Rattle.decimal.specs.Numeral.{isDigit, front, valueFrom, canonical, readAt}
+use Rattle.decimal.specs.Numeral.{isDigit, leadDigits, valueFrom, canonical, readAt}
 use Rattle.decimal.specs.Digit.{DigitAt}
-use Rattle.decimal.specs.Value.{front-digit, front-other}
+use Rattle.decimal.specs.Value.{leadDigits-digit, leadDigits-other}
 use Rattle.decimal.specs.declared.Numeral.the-variants.{Number, Nothing}
 
 -- DigitAt
 
-no-digit : (text : List ℕ) (at : ℕ) → front (drop at text) ≡ [] → DigitAt text at 10
+no-digit : (text : List ℕ) (at : ℕ) → leadDigits (drop at text) ≡ [] → DigitAt text at 10
 no-digit text at h = record { inside = omega arith; digit = λ p. absurd (omega arith); none = λ p. h }
 
 pub past-end : (text : List ℕ) (at : ℕ) → length text ≤ at → DigitAt text at 10
-unfolding front
-past-end text at h = no-digit text at (ap front (drop-of-length-le text h))
+unfolding leadDigits
+past-end text at h = no-digit text at (ap leadDigits (drop-of-length-le text h))
 
 other-byte : (text : List ℕ) (at : ℕ) → at < length text → isDigit (getD text at 0) ≡ false → DigitAt text at 10
-other-byte text at h e = no-digit text at (rw (drop-cons text at 0 h) (front-other (getD text at 0) (drop (suc at) text) e))
+other-byte text at h e = no-digit text at (rw (drop-cons text at 0 h) (leadDigits-other (getD text at 0) (drop (suc at) text) e))
 
 pub below-digits : (text : List ℕ) (at : ℕ) → at < length text → getD text at 0 < 48 → DigitAt text at 10
 below-digits text at h p = other-byte text at h (simp (lt-leb 48 (getD text at 0) p))
@@ -43,29 +43,29 @@ within-digits text at h p q =
       inside = λ _. h;
       digit = λ _.
           rw (add-one, drop-cons text at 0 h, e)
-          (front-digit b (drop (suc at) text) (simp (le-leb 48 b p, le-leb b 57 q)));
+          (leadDigits-digit b (drop (suc at) text) (simp (le-leb 48 b p, le-leb b 57 q)));
       none = λ r. absurd (omega arith);
     }
 
--- front
+-- leadDigits
 
-front-length : (s : List ℕ) → length (front s) ≤ length s
-unfolding front
-front-length [] = omega arith
-front-length (b ∷ s) = go (isDigit b) refl (front-length s)
+leadDigits-length : (s : List ℕ) → length (leadDigits s) ≤ length s
+unfolding leadDigits
+leadDigits-length [] = omega arith
+leadDigits-length (b ∷ s) = go (isDigit b) refl (leadDigits-length s)
   where
-    go : (t : Bool) → isDigit b ≡ t → length (front s) ≤ length s → length (front (b ∷ s)) ≤ length (b ∷ s)
-    go true e ih = simp (front-digit b s e) (omega arith)
-    go false e ih = simp (front-other b s e) (omega arith)
+    go : (t : Bool) → isDigit b ≡ t → length (leadDigits s) ≤ length s → length (leadDigits (b ∷ s)) ≤ length (b ∷ s)
+    go true e ih = simp (leadDigits-digit b s e) (omega arith)
+    go false e ih = simp (leadDigits-other b s e) (omega arith)
 
-front-first : (s : List ℕ) → 1 ≤ length (front s) → getD (front s) 0 0 ≡ getD s 0 0
-unfolding front
-front-first [] h = refl
-front-first (b ∷ s) h = go (isDigit b) refl
+leadDigits-first : (s : List ℕ) → 1 ≤ length (leadDigits s) → getD (leadDigits s) 0 0 ≡ getD s 0 0
+unfolding leadDigits
+leadDigits-first [] h = refl
+leadDigits-first (b ∷ s) h = go (isDigit b) refl
   where
-    go : (t : Bool) → isDigit b ≡ t → getD (front (b ∷ s)) 0 0 ≡ b
-    go true e = simp (front-digit b s e)
-    go false e = absurd (omega (arith, h, ap length (front-other b s e)))
+    go : (t : Bool) → isDigit b ≡ t → getD (leadDigits (b ∷ s)) 0 0 ≡ b
+    go true e = simp (leadDigits-digit b s e)
+    go false e = absurd (omega (arith, h, ap length (leadDigits-other b s e)))
 
 -- valueFrom
 
@@ -96,16 +96,16 @@ canonical-more (b ∷ c ∷ s) h = refl
 -- readAt
 
 module _ (bound : ℕ) (text : List ℕ) (at : ℕ) where
-  read-above : bound < valueFrom 0 (front (drop at text)) → readAt bound text at ≡ Nothing
+  read-above : bound < valueFrom 0 (leadDigits (drop at text)) → readAt bound text at ≡ Nothing
   unfolding readAt
-  read-above h = simp (lt-leb (valueFrom 0 (front (drop at text))) bound h, and-false)
+  read-above h = simp (lt-leb (valueFrom 0 (leadDigits (drop at text))) bound h, and-false)
 
-  read-other : canonical (front (drop at text)) ≡ false → readAt bound text at ≡ Nothing
+  read-other : canonical (leadDigits (drop at text)) ≡ false → readAt bound text at ≡ Nothing
   unfolding readAt
   read-other h = simp h
 
-  read-number : (v next : ℕ) → canonical (front (drop at text)) ≡ true → valueFrom 0 (front (drop at text)) ≡ v → v ≤ bound
-      → at + length (front (drop at text)) ≡ next → readAt bound text at ≡ Number v next
+  read-number : (v next : ℕ) → canonical (leadDigits (drop at text)) ≡ true → valueFrom 0 (leadDigits (drop at text)) ≡ v → v ≤ bound
+      → at + length (leadDigits (drop at text)) ≡ next → readAt bound text at ≡ Number v next
   unfolding readAt
   read-number v next c e h l = simp (c, e, l, le-leb v bound h)
 
@@ -114,19 +114,19 @@ module _ (bound : ℕ) (text : List ℕ) (at : ℕ) where
 pub record Passed (text : List ℕ) (at v i d : ℕ) : Type 0 where
   pub from : at ≤ i
   pub here : DigitAt text i d
-  pub value : valueFrom 0 (front (drop at text)) ≡ valueFrom v (front (drop i text))
-  pub count : at + length (front (drop at text)) ≡ i + length (front (drop i text))
+  pub value : valueFrom 0 (leadDigits (drop at text)) ≡ valueFrom v (leadDigits (drop i text))
+  pub count : at + length (leadDigits (drop at text)) ≡ i + length (leadDigits (drop i text))
 
 pub passed-none : (text : List ℕ) (at d : ℕ) → DigitAt text at d → Passed text at 0 at d
 passed-none text at d h = record { from = omega arith; here = h; value = refl; count = refl }
 
 module _ {text : List ℕ} {at v i d : ℕ} (p : Passed text at v i d) where
   -- one digit more
-  passed-digit : d < 10 → valueFrom 0 (front (drop at text)) ≡ valueFrom (v * 10 + d) (front (drop (i + 1) text))
+  passed-digit : d < 10 → valueFrom 0 (leadDigits (drop at text)) ≡ valueFrom (v * 10 + d) (leadDigits (drop (i + 1) text))
   unfolding valueFrom
   passed-digit h =
       let e : 48 + d - 48 ≡ d = omega arith in
-      p .value ∙ ap (valueFrom v) (p .here .digit h) ∙ ap (λ (x : ℕ). valueFrom (v * 10 + x) (front (drop (i + 1) text))) e
+      p .value ∙ ap (valueFrom v) (p .here .digit h) ∙ ap (λ (x : ℕ). valueFrom (v * 10 + x) (leadDigits (drop (i + 1) text))) e
 
   pub passed-more : (x : ℕ) → d < 10 → DigitAt text (i + 1) x → Passed text at (v * 10 + d) (i + 1) x
   passed-more x h n =
@@ -142,33 +142,33 @@ module _ (bound : ℕ) {text : List ℕ} {at v i d : ℕ} (p : Passed text at v 
   pub answer-above : d < 10 → bound < v * 10 + d → Nothing ≡ readAt bound text at
   answer-above h q =
       sym (read-above bound text at
-      (omega (arith, passed-digit p h, valueFrom-le (v * 10 + d) (front (drop (i + 1) text)))))
+      (omega (arith, passed-digit p h, valueFrom-le (v * 10 + d) (leadDigits (drop (i + 1) text)))))
 
   module _ (end : 10 ≤ d) where
-    all-value : valueFrom 0 (front (drop at text)) ≡ v
+    all-value : valueFrom 0 (leadDigits (drop at text)) ≡ v
     unfolding valueFrom
     all-value = p .value ∙ rw (p .here .none end)
 
-    all-count : at + length (front (drop at text)) ≡ i
+    all-count : at + length (leadDigits (drop at text)) ≡ i
     all-count = omega (arith, p .count, ap length (p .here .none end))
 
     pub answer-none : i - at ≡ 0 → Nothing ≡ readAt bound text at
-    answer-none k = sym (read-other bound text at (canonical-none (front (drop at text)) (omega (arith, all-count))))
+    answer-none k = sym (read-other bound text at (canonical-none (leadDigits (drop at text)) (omega (arith, all-count))))
 
     pub answer-one : v ≤ bound → i - at ≡ 1 → Number v i ≡ readAt bound text at
     answer-one q k =
-        sym (read-number bound text at v i (canonical-one (front (drop at text)) (omega (arith, all-count))) all-value q all-count)
+        sym (read-number bound text at v i (canonical-one (leadDigits (drop at text)) (omega (arith, all-count))) all-value q all-count)
 
     pub place-inside : (i - at ≡ 0 → ⊥) → at < length text
-    place-inside k = omega (arith, all-count, front-length (drop at text), length-drop at text, k)
+    place-inside k = omega (arith, all-count, leadDigits-length (drop at text), length-drop at text, k)
 
     module _ (some : i - at ≡ 0 → ⊥) (more : i - at ≡ 1 → ⊥) where
-      first-byte : canonical (front (drop at text)) ≡ not (eqb (getD text at 0) 48)
+      first-byte : canonical (leadDigits (drop at text)) ≡ not (eqb (getD text at 0) 48)
       first-byte =
-          let l : 1 < length (front (drop at text)) = omega (arith, all-count, some, more) in
-          let e : getD (front (drop at text)) 0 0 ≡ getD text at 0 =
-          front-first (drop at text) (omega arith) ∙ getD-drop at text 0 0 ∙ ap (λ (n : ℕ). getD text n 0) (add-zero at) in
-          canonical-more (front (drop at text)) l ∙ ap (λ (n : ℕ). not (eqb n 48)) e
+          let l : 1 < length (leadDigits (drop at text)) = omega (arith, all-count, some, more) in
+          let e : getD (leadDigits (drop at text)) 0 0 ≡ getD text at 0 =
+          leadDigits-first (drop at text) (omega arith) ∙ getD-drop at text 0 0 ∙ ap (λ (n : ℕ). getD text n 0) (add-zero at) in
+          canonical-more (leadDigits (drop at text)) l ∙ ap (λ (n : ℕ). not (eqb n 48)) e
 
       pub answer-zero : getD text at 0 ≡ 48 → Nothing ≡ readAt bound text at
       answer-zero e = sym (read-other bound text at (first-byte ∙ ap not (eq-eqb (getD text at 0) 48 e)))

@@ -9,8 +9,8 @@ use lib.Seq.{drop-drop, drop-append-seam, length-take-le}
 use lib.Dec.{leb}
 use borrow.Author.Tests.{le-leb, lt-leb, leb-true, leb-false}
 use Rattle.lists.specs.Over.{over, over-length}
-use Rattle.decimal.specs.Numeral.{front, valueFrom, canonical, numeral, readAt, room, writeAt, withNumeral}
-use Rattle.decimal.specs.Value.{front-front, front-split, front-rest, front-numeral}
+use Rattle.decimal.specs.Numeral.{leadDigits, valueFrom, canonical, numeral, readAt, room, writeAt, withNumeral}
+use Rattle.decimal.specs.Value.{leadDigits-again, leadDigits-split, leadDigits-rest, leadDigits-numeral}
 use Rattle.decimal.specs.Value.{value-numeral, canonical-numeral, numeral-canonical}
 use Rattle.decimal.specs.declared.Numeral.the-variants.{Number, Nothing}
 use Rattle.decimal.specs.declared.Written.the-variants.{To, NoRoom}
@@ -18,15 +18,15 @@ use Rattle.decimal.specs.declared.Written.the-variants.{To, NoRoom}
 -- Reading
 
 -- a numeral of at most the bound that stands at the place is read
-pub read-at : (bound n at : ℕ) (text rest : List ℕ) → n ≤ bound → front rest ≡ [] → drop at text ≡ numeral n ++ rest
+pub read-at : (bound n at : ℕ) (text rest : List ℕ) → n ≤ bound → leadDigits rest ≡ [] → drop at text ≡ numeral n ++ rest
     → readAt bound text at ≡ Number n (at + length (numeral n))
 unfolding readAt
 read-at bound n at text rest h f e =
-    let d : front (drop at text) ≡ numeral n = ap front e ∙ front-numeral n rest f in
+    let d : leadDigits (drop at text) ≡ numeral n = ap leadDigits e ∙ leadDigits-numeral n rest f in
     simp (d, value-numeral n, canonical-numeral n, le-leb n bound h)
 
 -- A result to be read: what was written reads back.
-pub read-numeral : (bound n : ℕ) (before rest : List ℕ) → n ≤ bound → front rest ≡ []
+pub read-numeral : (bound n : ℕ) (before rest : List ℕ) → n ≤ bound → leadDigits rest ≡ []
     → readAt bound (before ++ numeral n ++ rest) (length before) ≡ Number n (length before + length (numeral n))
 read-numeral bound n before rest h f =
     read-at bound n (length before) (before ++ numeral n ++ rest) rest h f
@@ -34,7 +34,7 @@ read-numeral bound n before rest h f =
 
 -- A result to be read: where nothing is read, no numeral of at most the bound stands.
 pub read-refuses : (bound : ℕ) (text : List ℕ) (at n : ℕ) (rest : List ℕ) → readAt bound text at ≡ Nothing
-    → n ≤ bound → front rest ≡ [] → drop at text ≡ numeral n ++ rest → ⊥
+    → n ≤ bound → leadDigits rest ≡ [] → drop at text ≡ numeral n ++ rest → ⊥
 read-refuses bound text at n rest e h f d =
     let z : _≡_ {A = ℕ} 0 1 = cc (read-at bound n at text rest h f d) in
     omega arith
@@ -44,27 +44,27 @@ pub record Accepted (bound : ℕ) (text : List ℕ) (at n next : ℕ) : Type 0 w
   pub within : n ≤ bound
   pub next-place : next ≡ at + length (numeral n)
   pub stands : drop at text ≡ numeral n ++ drop next text
-  pub ends : front (drop next text) ≡ []
+  pub ends : leadDigits (drop next text) ≡ []
 
 pub read-accepts : (bound : ℕ) (text : List ℕ) (at n next : ℕ) → readAt bound text at ≡ Number n next → Accepted bound text at n next
 unfolding readAt
 read-accepts bound text at n next e = go (canonical ds && leb (valueFrom 0 ds) bound) refl
   where
     ds : List ℕ
-    ds = front (drop at text)
+    ds = leadDigits (drop at text)
 
     go : (t : Bool) → (canonical ds && leb (valueFrom 0 ds) bound) ≡ t → Accepted bound text at n next
     go true p =
         let both = and-eq-true-iff (canonical ds) (leb (valueFrom 0 ds) bound) .0 p in
         let r : readAt bound text at ≡ Number (valueFrom 0 ds) (at + length ds) = simp p in
         let v : n ≡ valueFrom 0 ds = cc in
-        let w : numeral n ≡ ds = ap numeral v ∙ numeral-canonical ds (front-front (drop at text)) (both .0) in
+        let w : numeral n ≡ ds = ap numeral v ∙ numeral-canonical ds (leadDigits-again (drop at text)) (both .0) in
         let x : next ≡ at + length ds = cc in
         record {
           within = omega (arith, leb-true (valueFrom 0 ds) bound (both .1));
           next-place = rw w x;
-          stands = rw (x, w, ← drop-drop (length ds) at text) (front-split (drop at text));
-          ends = rw (x, ← drop-drop (length ds) at text) (front-rest (drop at text));
+          stands = rw (x, w, ← drop-drop (length ds) at text) (leadDigits-split (drop at text));
+          ends = rw (x, ← drop-drop (length ds) at text) (leadDigits-rest (drop at text));
         }
     go false p =
         let r : readAt bound text at ≡ Nothing = simp p in
@@ -119,7 +119,7 @@ withNumeral-length n buf at = go (room n (length buf) at) refl
 
 -- A result to be read: what a write leaves reads back, where no digit follows.
 pub withNumeral-reads : (bound n : ℕ) (buf : List ℕ) (at : ℕ) → n ≤ bound → at + length (numeral n) ≤ length buf
-    → front (drop (at + length (numeral n)) buf) ≡ [] → readAt bound (withNumeral n buf at) at ≡ Number n (at + length (numeral n))
+    → leadDigits (drop (at + length (numeral n)) buf) ≡ [] → readAt bound (withNumeral n buf at) at ≡ Number n (at + length (numeral n))
 unfolding over
 withNumeral-reads bound n buf at h fits f =
     let l : length (take at buf) ≡ at = length-take-le at buf (omega arith) in

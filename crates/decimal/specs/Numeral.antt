@@ -25,9 +25,9 @@ unfolding numeralBy
 numeral n = numeralBy n n
 
 -- the digits at the front of a text, as many as stand there
-unfoldable pub front : List ℕ → List ℕ
-front [] = []
-front (b ∷ s) = elim (isDigit b) [ true ↦ b ∷ front s | false ↦ [] ]
+unfoldable pub leadDigits : List ℕ → List ℕ
+leadDigits [] = []
+leadDigits (b ∷ s) = elim (isDigit b) [ true ↦ b ∷ leadDigits s | false ↦ [] ]
 
 -- the value of digits, from the highest, after digits of the value v
 unfoldable pub valueFrom : ℕ → List ℕ → ℕ
@@ -42,9 +42,9 @@ canonical (b ∷ c ∷ s) = not (eqb b 48)
 
 -- Reading at a place of a text: all digits that stand there, if they are a numeral of at most the bound, and the place after them
 unfoldable pub readAt : ℕ → List ℕ → ℕ → Numeral
-unfolding front valueFrom canonical
+unfolding leadDigits valueFrom canonical
 readAt bound text at =
-    let ds : List ℕ = front (drop at text) in
+    let ds : List ℕ = leadDigits (drop at text) in
     cond (canonical ds && leb (valueFrom 0 ds) bound) (Number (valueFrom 0 ds) (at + length ds)) Nothing
 
 -- whether n's numeral fits into so many bytes from a place

@@ -10,7 +10,7 @@ use lib.ListN.{length, drop, length-append}
 use lib.Dec.{ltb, eqb}
 use borrow.Author.Tests.{lt-ltb, le-ltb, le-leb, ne-eqb, ltb-true, ltb-false, eqb-false, not-true}
 use Rattle.lists.specs.All.{between-bounds}
-use Rattle.decimal.specs.Numeral.{isDigit, front, valueFrom, canonical, numeral, numeralBy}
+use Rattle.decimal.specs.Numeral.{isDigit, leadDigits, valueFrom, canonical, numeral, numeralBy}
 
 -- numeral
 
@@ -55,80 +55,80 @@ module _ (P : ℕ → Type 0) (small : (n : ℕ) → n < 10 → P n) (step : (n 
 isDigit-byte : (d : ℕ) → d < 10 → isDigit (48 + d) ≡ true
 isDigit-byte d h = simp (le-leb 48 (48 + d) (omega arith), le-leb (48 + d) 57 (omega arith))
 
--- front
+-- leadDigits
 
-pub front-digit : (b : ℕ) (s : List ℕ) → isDigit b ≡ true → front (b ∷ s) ≡ b ∷ front s
-unfolding front
-front-digit b s e = rw (e, front)
+pub leadDigits-digit : (b : ℕ) (s : List ℕ) → isDigit b ≡ true → leadDigits (b ∷ s) ≡ b ∷ leadDigits s
+unfolding leadDigits
+leadDigits-digit b s e = rw (e, leadDigits)
 
-pub front-other : (b : ℕ) (s : List ℕ) → isDigit b ≡ false → front (b ∷ s) ≡ []
-unfolding front
-front-other b s e = rw (front, e)
+pub leadDigits-other : (b : ℕ) (s : List ℕ) → isDigit b ≡ false → leadDigits (b ∷ s) ≡ []
+unfolding leadDigits
+leadDigits-other b s e = rw (leadDigits, e)
 
 -- the first of several digits, and the others
 record Digits (b : ℕ) (s : List ℕ) : Type 0 where
   digit : isDigit b ≡ true
-  rest : front s ≡ s
+  rest : leadDigits s ≡ s
 
-front-cons : (b : ℕ) (s : List ℕ) → front (b ∷ s) ≡ b ∷ s → Digits b s
-unfolding front
-front-cons b s h = go (isDigit b) refl
+leadDigits-cons : (b : ℕ) (s : List ℕ) → leadDigits (b ∷ s) ≡ b ∷ s → Digits b s
+unfolding leadDigits
+leadDigits-cons b s h = go (isDigit b) refl
   where
     go : (t : Bool) → isDigit b ≡ t → Digits b s
-    go true e = record { digit = e; rest = (cc (front-digit b s e)) }
-    go false e = let z : _≡_ {A = ℕ} 0 1 = cc (front-other b s e) in absurd (omega arith)
+    go true e = record { digit = e; rest = (cc (leadDigits-digit b s e)) }
+    go false e = let z : _≡_ {A = ℕ} 0 1 = cc (leadDigits-other b s e) in absurd (omega arith)
 
 -- a text that starts with digits: those, and then the digits of what follows
-pub front-append : (s t : List ℕ) → front s ≡ s → front (s ++ t) ≡ s ++ front t
-unfolding front
-front-append [] t h = refl
-front-append (b ∷ s) t h =
-    let d : Digits b s = front-cons b s h in
-    cc (front-digit b (s ++ t) (d .digit), front-append s t (d .rest))
+pub leadDigits-append : (s t : List ℕ) → leadDigits s ≡ s → leadDigits (s ++ t) ≡ s ++ leadDigits t
+unfolding leadDigits
+leadDigits-append [] t h = refl
+leadDigits-append (b ∷ s) t h =
+    let d : Digits b s = leadDigits-cons b s h in
+    cc (leadDigits-digit b (s ++ t) (d .digit), leadDigits-append s t (d .rest))
 
 -- the digits at the front are digits to their end
-pub front-front : (s : List ℕ) → front (front s) ≡ front s
-unfolding front
-front-front [] = refl
-front-front (b ∷ s) = go (isDigit b) refl (front-front s)
+pub leadDigits-again : (s : List ℕ) → leadDigits (leadDigits s) ≡ leadDigits s
+unfolding leadDigits
+leadDigits-again [] = refl
+leadDigits-again (b ∷ s) = go (isDigit b) refl (leadDigits-again s)
   where
-    go : (t : Bool) → isDigit b ≡ t → front (front s) ≡ front s → front (front (b ∷ s)) ≡ front (b ∷ s)
-    go true e ih = simp (front-digit b s e) (cc (front-digit b (front s) e))
-    go false e ih = simp (front-other b s e)
+    go : (t : Bool) → isDigit b ≡ t → leadDigits (leadDigits s) ≡ leadDigits s → leadDigits (leadDigits (b ∷ s)) ≡ leadDigits (b ∷ s)
+    go true e ih = simp (leadDigits-digit b s e) (cc (leadDigits-digit b (leadDigits s) e))
+    go false e ih = simp (leadDigits-other b s e)
 
 -- a text is the digits at its front, and what follows them
-pub front-split : (s : List ℕ) → s ≡ front s ++ drop (length (front s)) s
-unfolding front
-front-split [] = refl
-front-split (b ∷ s) = go (isDigit b) refl (front-split s)
+pub leadDigits-split : (s : List ℕ) → s ≡ leadDigits s ++ drop (length (leadDigits s)) s
+unfolding leadDigits
+leadDigits-split [] = refl
+leadDigits-split (b ∷ s) = go (isDigit b) refl (leadDigits-split s)
   where
-    go : (t : Bool) → isDigit b ≡ t → s ≡ front s ++ drop (length (front s)) s
-        → b ∷ s ≡ front (b ∷ s) ++ drop (length (front (b ∷ s))) (b ∷ s)
-    go true e ih = simp (front-digit b s e) (ap (λ (l : List ℕ). b ∷ l) ih)
-    go false e ih = simp (front-other b s e)
+    go : (t : Bool) → isDigit b ≡ t → s ≡ leadDigits s ++ drop (length (leadDigits s)) s
+        → b ∷ s ≡ leadDigits (b ∷ s) ++ drop (length (leadDigits (b ∷ s))) (b ∷ s)
+    go true e ih = simp (leadDigits-digit b s e) (ap (λ (l : List ℕ). b ∷ l) ih)
+    go false e ih = simp (leadDigits-other b s e)
 
 -- and none follows them
-pub front-rest : (s : List ℕ) → front (drop (length (front s)) s) ≡ []
-unfolding front
-front-rest [] = refl
-front-rest (b ∷ s) = go (isDigit b) refl (front-rest s)
+pub leadDigits-rest : (s : List ℕ) → leadDigits (drop (length (leadDigits s)) s) ≡ []
+unfolding leadDigits
+leadDigits-rest [] = refl
+leadDigits-rest (b ∷ s) = go (isDigit b) refl (leadDigits-rest s)
   where
-    go : (t : Bool) → isDigit b ≡ t → front (drop (length (front s)) s) ≡ [] → front (drop (length (front (b ∷ s))) (b ∷ s)) ≡ []
-    go true e ih = simp (front-digit b s e) ih
-    go false e ih = simp (front-other b s e)
+    go : (t : Bool) → isDigit b ≡ t → leadDigits (drop (length (leadDigits s)) s) ≡ [] → leadDigits (drop (length (leadDigits (b ∷ s))) (b ∷ s)) ≡ []
+    go true e ih = simp (leadDigits-digit b s e) ih
+    go false e ih = simp (leadDigits-other b s e)
 
 -- every byte of a numeral is a digit
-pub numeral-digits : (n : ℕ) → front (numeral n) ≡ numeral n
-unfolding front
+pub numeral-digits : (n : ℕ) → leadDigits (numeral n) ≡ numeral n
+unfolding leadDigits
 numeral-digits =
-    numeral-induction (λ (n : ℕ). front (numeral n) ≡ numeral n)
-    (λ n h. rw (numeral-small n h, front-digit (48 + n) [] (isDigit-byte n h)))
+    numeral-induction (λ (n : ℕ). leadDigits (numeral n) ≡ numeral n)
+    (λ n h. rw (numeral-small n h, leadDigits-digit (48 + n) [] (isDigit-byte n h)))
     (λ n h ih.
     let d = isDigit-byte (n % 10) (omega arith) in
-    rw (numeral-step n h, front-append (numeral (n / 10)) ((48 + n % 10) ∷ []) ih, front-digit (48 + n % 10) [] d))
+    rw (numeral-step n h, leadDigits-append (numeral (n / 10)) ((48 + n % 10) ∷ []) ih, leadDigits-digit (48 + n % 10) [] d))
 
-pub front-numeral : (n : ℕ) (rest : List ℕ) → front rest ≡ [] → front (numeral n ++ rest) ≡ numeral n
-front-numeral n rest h = cc (front-append (numeral n) rest (numeral-digits n), append-nil (numeral n))
+pub leadDigits-numeral : (n : ℕ) (rest : List ℕ) → leadDigits rest ≡ [] → leadDigits (numeral n ++ rest) ≡ numeral n
+leadDigits-numeral n rest h = cc (leadDigits-append (numeral n) rest (numeral-digits n), append-nil (numeral n))
 
 -- valueFrom
 
@@ -159,11 +159,11 @@ canonical-numeral =
     (λ n h ih. rw (numeral-step n h) (canonical-append (numeral (n / 10)) ((48 + n % 10) ∷ []) ih (omega (arith, value-numeral (n / 10)))))
 
 -- digits after a number that is not 0: the numeral of their value is that of the number, and the digits
-numeral-valueFrom : (v : ℕ) (s : List ℕ) → 1 ≤ v → front s ≡ s → numeral (valueFrom v s) ≡ numeral v ++ s
+numeral-valueFrom : (v : ℕ) (s : List ℕ) → 1 ≤ v → leadDigits s ≡ s → numeral (valueFrom v s) ≡ numeral v ++ s
 unfolding valueFrom
 numeral-valueFrom v [] p h = sym (append-nil (numeral v))
 numeral-valueFrom v (b ∷ s) p h =
-    let d : Digits b s = front-cons b s h in
+    let d : Digits b s = leadDigits-cons b s h in
     let r = between-bounds 48 57 b (d .digit) in
     let w : ℕ = v * 10 + (b - 48) in
     let q : w / 10 ≡ v = omega (arith, r) in
@@ -172,16 +172,16 @@ numeral-valueFrom v (b ∷ s) p h =
     numeral-valueFrom w s (omega arith) (d .rest) ∙ rw (e, q, m) (append-assoc (numeral v) (b ∷ []) s)
 
 -- what was read, written again, has the same bytes
-pub numeral-canonical : (ds : List ℕ) → front ds ≡ ds → canonical ds ≡ true → numeral (valueFrom 0 ds) ≡ ds
+pub numeral-canonical : (ds : List ℕ) → leadDigits ds ≡ ds → canonical ds ≡ true → numeral (valueFrom 0 ds) ≡ ds
 unfolding canonical valueFrom
 numeral-canonical [] h c = absurd (false≢true c)
 numeral-canonical (b ∷ []) h c =
-    let d : Digits b [] = front-cons b [] h in
+    let d : Digits b [] = leadDigits-cons b [] h in
     let r = between-bounds 48 57 b (d .digit) in
     let m : 48 + (0 * 10 + (b - 48)) ≡ b = omega (arith, r) in
     numeral-small (0 * 10 + (b - 48)) (omega (arith, r)) ∙ rw m
 numeral-canonical (b ∷ x ∷ s) h c =
-    let d : Digits b (x ∷ s) = front-cons b (x ∷ s) h in
+    let d : Digits b (x ∷ s) = leadDigits-cons b (x ∷ s) h in
     let r = between-bounds 48 57 b (d .digit) in
     let m : 48 + (0 * 10 + (b - 48)) ≡ b = omega (arith, r) in
     let p = eqb-false b 48 (not-true (eqb b 48) c) in

@@ -9,7 +9,7 @@ use native.Mathlib.Omega.{arith}
 use lib.ListN.{length, take, drop, length-append, length-take, take-append-drop}
 use lib.Seq.{take-append-seam, drop-append-seam, drop-length}
 use lib.Dec.{eqb, leb}
-use Rattle.decimal.specs.Numeral.{numeral, front, readAt}
+use Rattle.decimal.specs.Numeral.{numeral, leadDigits, readAt}
 use Rattle.decimal.specs.Laws.{read-at, read-accepts}
 use Rattle.decimal.specs.declared.Numeral.{Numeral}
 use Rattle.decimal.specs.declared.Numeral.the-variants.{Number, Nothing}
@@ -63,7 +63,7 @@ same-decides xs ys false is back = by (same xs ys) refl
 -- what is written reads back
 pub numberAfter-reads : (word : List ℕ) (bound n : ℕ) → n ≤ bound
     → numberAfter word bound (word ++ numeral n) ≡ Number n (length word + length (numeral n))
-unfolding numberAfter front
+unfolding numberAfter leadDigits
 numberAfter-reads word bound n h =
     let r = read-at bound n (length word) (word ++ numeral n) [] h refl (drop-append-seam word (numeral n) ∙ sym (append-nil (numeral n))) in
     simp (take-append-seam word (numeral n), same-itself word, r, length-append, eq-eqb (length word + length (numeral n)) _ refl)
