@@ -12,7 +12,6 @@ use Rattle.script_line.specs.declared.Step.{Step}
 use Rattle.script_line.specs.declared.Step.the-variants.{Main, At}
 use Rattle.script_line.specs.declared.Verb.the-variants.{Catch, Send, Written, Ack, Drop, Join, Take}
 use Rattle.script.specs.declared.slot.Slot.{Slot}
-use Rattle.script.specs.declared.early.Early.{Early}
 use Rattle.script.specs.declared.early.Early.the-variants as early
 use Rattle.script.specs.declared.Stage.{Stage}
 use Rattle.script.specs.declared.Reply.{Reply}

@@ -6,7 +6,7 @@ use mathlib.Core.Bool.{Bool, true, false, cond, not, _||_, true≢false}
 use native.Mathlib.Nat.{pos-of-ne-zero}
 use native.Mathlib.Omega.{arith}
 use borrow.Author.Tests.{eqb-false}
-use lib.ListN.{length, length-set}
+use lib.ListN.{length-set}
 use lib.Seq.{drop-set-lt}
 use lib.Dec.{eqb}
 use Rattle.journal.specs.Entry.{Placed, inShape, entriesOf, fiveOf}

@@ -15,7 +15,7 @@ use Rattle.script.specs.declared.Reply.the-variants.{Answered, Empty}
 use Rattle.script.specs.declared.Stepped.{Stepped}
 use Rattle.script.specs.Stage.{worldOf, forgotten, stepIn, replyOf, lineIn, stageFits}
 
--- the journal is in shape, and the stage stageFits
+-- the journal is in shape, and the stage fits
 abbrev pub playable : List ℕ → Stage → Step → Bool
 playable ns before s = inShape ns && stageFits before s
 
@@ -45,7 +45,7 @@ pub record SameAbove (n : ℕ) (before after : Stage) : Type 0 where
   pub records : drop n (after .records) ≡ drop n (before .records)
   pub lines : drop n (after .lines) ≡ drop n (before .lines)
 
--- where the journal is in shape and the stage stageFits, the step is the world's; where not, the answer is 1 and nothing changes; a refusal
+-- where the journal is in shape and the stage fits, the step is the world's; where not, the answer is 1 and nothing changes; a refusal
 -- gives back the stage handed in, whole; what there is from W up is as it was in any case; and sixteen records and lines stay sixteen
 pub record Plays (ns : List ℕ) (before : Stage) (s : Step) (r : Stepped) : Type 0 where
   pub played : playable ns before s ≡ true → Steps (entriesOf ns) before s r

@@ -137,7 +137,8 @@ pub step-alike : (wd : World) (s : Step) → Alike (W.step (stepIn (forgotten wd
 unfolding W.step forgotten
 step-alike wd Main = alike-called (λ p. mainRule (numbersIn wd) (wd .current + 1) p) wd
 step-alike wd (At Catch w) =
-    subst⁻¹ (λ x. Alike (W.step (W.catch w (x .view .term) (dueIn (x .view .condition))) (forgotten wd)) (W.step (stepIn wd (At Catch w)) wd))
+    subst⁻¹
+    (λ x. Alike (W.step (W.catch w (x .view .term) (dueIn (x .view .condition))) (forgotten wd)) (W.step (stepIn wd (At Catch w)) wd))
     (forgotten-at w wd)
     (alike-called (λ p. catchRule (numbersIn wd) w (sideAt w wd .view .term) (dueIn (sideAt w wd .view .condition)) p) wd)
 step-alike wd (At Send w) =
@@ -183,7 +184,7 @@ module _ (j : List Entry) (s : Stage) (wd : World) (shows : worldOf j s ≡ forg
   shown-count : s .player .count ≡ length (wd .sides)
   shown-count = sym (worldOf-count j s) ∙ ap (λ x. length (x .sides)) shows ∙ forgotten-count wd
 
-  -- where the world has room, every step stageFits
+  -- where the world has room, every step fits
   module _ (r : Roomy wd) (records : length (s .records) ≡ 16) (lines : length (s .lines) ≡ 16) where
     pub shown-few : s .player .count ≤ 16
     shown-few = omega (arith, shown-count, shaped (numbersIn wd) (playerIn wd) (r .reached .inShape) .most, windows-in wd)

@@ -1,5 +1,4 @@
 -- Sixteen fresh windows, none of them counted.
-use mathlib.Core.Path.{refl}
 use borrow.Author.Needs.{needs}
 use Rattle.rules.specs.Rules.{least}
 use Rattle.player.specs.Promise.{freshWindows}
