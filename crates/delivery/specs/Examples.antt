@@ -14,14 +14,9 @@ use Rattle.rules.specs.View.{PlayerView}
 use Rattle.rules.specs.Shape.{windowShape, shape}
 use Rattle.rules.specs.Window.{check, enqueue, mainAt, fetched, catchIn, catchAt, readyIn, batchOf, launched, sendAt, writtenAt, struck, ackAt, dropAt, joinAt}
 use Rattle.rules.specs.Rules.{operate, mapWindows, mainRule, catchRule, writtenRule, ackRule, dropRule, joinRule, sendRule, areReports, least, startRule}
-use Rattle.delivery.specs.World.{World, sideAt, withViews, withPlayer, onLine, takeFront, Step, main, catch, written, send, take, ack, drop, join, start, Reply, answered, empty, step, run, opened}
+use Rattle.delivery.specs.World.{World, sideAt, withViews, withPlayer, onLine, takeFront, Step, main, catch, written, send, take, ack, drop, join, start, Reply, answered, empty, step, run, replies, opened}
 use Rattle.delivery.specs.Same.{sameList, sameWindow, sameRace, sameRecord, sameEntry, sameSent, sameAck, sameSide, sameWorld}
 use Rattle.delivery.specs.Statement.{changes, joinedAfter}
-
--- the replies of a list of steps
-unfoldable pub replies : World → List Step → List Reply
-replies wd [] = []
-replies wd (s ∷ ss) = step s wd .reply ∷ replies (step s wd .world) ss
 
 -- to unfold this is to unfold the definitions that a run computes with
 unfoldable pub computed : Unit {0}

@@ -190,6 +190,11 @@ unfoldable pub run : World → List Step → World
 run wd [] = wd
 run wd (s ∷ ss) = run (step s wd .world) ss
 
+-- the replies of a list of steps
+unfoldable pub replies : World → List Step → List Reply
+replies wd [] = []
+replies wd (s ∷ ss) = step s wd .reply ∷ replies (step s wd .world) ss
+
 -- ------------------------------------------------------------------------
 -- The beginning: new windows, empty lines, any journal and a Start
 

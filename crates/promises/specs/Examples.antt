@@ -15,11 +15,11 @@ use Rattle.player.specs.declared.Player.{Player}
 use Rattle.player.specs.declared.Played.{Played}
 use Rattle.player.specs.View.{firstWindows, playerOf}
 use Rattle.player.specs.Promise.{freshWindows, freshPlayer, Starts}
-use Rattle.delivery.specs.World.{World, sideAt, Step, main, catch, written, send, take, ack, late-ack, drop, join, start, append, answered, run}
+use Rattle.delivery.specs.World.{World, sideAt, Step, main, catch, written, send, take, ack, late-ack, drop, join, start, append, answered, run, replies}
 use Rattle.delivery.specs.World as W
 use Rattle.delivery.specs.Statement.{firstStart}
 use Rattle.delivery.specs.Demand3.{opened-reached}
-use Rattle.delivery.specs.Examples.{replies, computed, done, term, room}
+use Rattle.delivery.specs.Examples.{computed, done, term, room}
 use Rattle.calls.specs.Host.{Host, endAt, Call, MadeAll, batchIn, hostAfter, opened}
 use Rattle.calls.specs.Statement.{Leading, Delivers}
 use Rattle.calls.specs.Shows.{endOf, shows-end}

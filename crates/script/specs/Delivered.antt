@@ -10,10 +10,9 @@ use Rattle.journal.specs.Entry.{inShape, entriesOf}
 use Rattle.journal.specs.Own.{own}
 use Rattle.record.specs.Record.{newRecord, takeAll}
 use Rattle.rules.specs.View.{PlayerView}
-use Rattle.delivery.specs.World.{World, sideAt, opened}
+use Rattle.delivery.specs.World.{World, sideAt, opened, replies}
 use Rattle.delivery.specs.World as W
 use Rattle.delivery.specs.Statement.{firstStart}
-use Rattle.delivery.specs.Examples.{replies}
 use Rattle.delivery.specs.Demand3.{demand-3}
 use Rattle.script_line.specs.declared.Step.{Step}
 use Rattle.script.specs.declared.Stage.{Stage}

@@ -5,10 +5,10 @@ use mathlib.Core.Bool.{true}
 use Rattle.journal.specs.Entry.{numbersOf}
 use Rattle.record.specs.declared.Record.{Record}
 use Rattle.rules.specs.View.{PlayerView}
-use Rattle.delivery.specs.World.{World, sideAt, answered, run, opened}
+use Rattle.delivery.specs.World.{World, sideAt, answered, run, opened, replies}
 use Rattle.delivery.specs.World as W
 use Rattle.delivery.specs.Statement.{firstStart}
-use Rattle.delivery.specs.Examples.{computed, replies, done, Shown, nobody, afternoon}
+use Rattle.delivery.specs.Examples.{computed, done, Shown, nobody, afternoon}
 use Rattle.script_line.specs.declared.Step.{Step}
 use Rattle.script_line.specs.declared.Step.the-variants.{Main, At}
 use Rattle.script_line.specs.declared.Verb.the-variants.{Catch, Send, Drop, Join, Take}
