@@ -14,7 +14,7 @@ use Rattle.rules.specs.declared.Term.{Term}
 use Rattle.rules.specs.View.{WindowView, PlayerView, noWindow}
 use Rattle.rules.specs.Window.{batchOf, sendAt, ackAt, joinAt}
 use Rattle.rules.specs.Rules.{Outcome, catchRule, writtenRule, ackRule, dropRule, joinRule, sendRule}
-use Rattle.rules.specs.Offers.{operate-limit, mainRule-cases, startRule-done}
+use Rattle.rules.specs.Offers.{operate-limit, mainRule-cases, startRule-done, batchOf-most}
 use Rattle.delivery.specs.World.{Sent, Ack, Side, World, noSide, sideAt, numbersIn, playerIn, withLines, withPlayer, withSide, onLine}
 use Rattle.delivery.specs.World.{takeFront, answered, calledThen, launch, takeAtLine, ackAtLine, cleared, newSide, opened}
 use Rattle.delivery.specs.World as W
@@ -31,7 +31,6 @@ use Rattle.script_line.specs.declared.Step.{Step}
 use Rattle.script_line.specs.declared.Step.the-variants.{Main, At}
 use Rattle.script_line.specs.declared.Verb.the-variants.{Catch, Send, Written, Ack as AckVerb, Drop, Join, Take}
 use Rattle.script.specs.Stage.{stepIn, stepsIn}
-use Rattle.script.specs.Sends.{batchOf-most}
 
 -- ------------------------------------------------------------------------
 -- Pairs

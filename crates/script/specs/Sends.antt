@@ -1,23 +1,20 @@
 -- The step Send: the numbers that it wrote are those of the entries that the world puts on the line.
-use Prim.Native.Nat.{ℕ, zero, suc, _-_, _≤_, _<_}
+use Prim.Native.Nat.{ℕ, _-_, _≤_}
 use mathlib.Core.Path.{_≡_, refl, sym, ap, ap₂, _∙_}
-use mathlib.Core.Logic.{⊎-elim}
 use mathlib.Core.List.{List, [], _∷_, _++_, map, map-append}
-use mathlib.Core.Bool.{Bool, true, false, true≢false}
+use mathlib.Core.Bool.{true, false, true≢false}
 use native.Mathlib.Omega.{arith}
 use borrow.Author.Tests.{eq-eqb, ne-eqb, leb-true}
-use lib.ListN.{length, take, drop, replicate}
+use lib.ListN.{length, drop, replicate}
 use lib.Dec.{leb}
 use Rattle.journal.specs.declared.Entry.{Entry}
-use Rattle.lists.specs.Cases.{le-or-lt, and-left, and-right, and-intro}
+use Rattle.lists.specs.Cases.{and-left, and-right}
 use Rattle.journal.specs.Entry.{inShape, countOf, entriesOf}
-use Rattle.lists.specs.All.{all, queuedIn, all-append, all-take}
+use Rattle.lists.specs.All.{all, queuedIn}
 use Rattle.rules.specs.declared.Term.{Term}
-use Rattle.rules.specs.View.{Condition, normal, fetching, completed, suspended, WindowView, PlayerView}
+use Rattle.rules.specs.View.{PlayerView}
 use Rattle.rules.specs.Shape.{isEmpty}
-use Rattle.rules.specs.Offers.{shaped, batchOf-normal, batchOf-fetching, batchOf-more, batchOf-all, batchOf-drained, batchOf-suspended}
-use Rattle.rules.specs.Offers.{sendRule-done}
-use Rattle.rules.specs.Window.{requeue, Ready, none, front, readyIn, Batch, addFront, batchOf}
+use Rattle.rules.specs.Offers.{shaped, batchOf-most, batchOf-queued, sendRule-done}
 use Rattle.rules.specs.Rules.{windowAt, sendRule, batchNumbers, batchAt, sendOutput}
 use Rattle.player.specs.declared.Played.{Played}
 use Rattle.player.specs.View.{playerOf}
@@ -36,42 +33,6 @@ use Rattle.script.specs.Stored.{slotIn, outcomeAt, outputAt, Relined, st
 use Rattle.script.specs.Worlds.{playerOf-count, changed, Staged, worldOf-player, worldOf-side}
 use Rattle.script.specs.Calls.{rule-here}
 use Rattle.script.specs.Settled.{line-here, back-here, lines-side, turned-steps}
-
--- ------------------------------------------------------------------------
--- batchOf
-
-pub batchOf-most : (k : ℕ) (v : WindowView) → length (batchOf k v .indices) ≤ k
-unfolding batchOf
-batchOf-most zero v = omega arith
-batchOf-most (suc k) v = by (readyIn (v .condition) v) (batchOf-most k)
-  where
-    by : (r : Ready) → ((v : WindowView) → length (batchOf k v .indices) ≤ k) →
-        length ((elim r as (λ _. Batch) [ none ↦ record { indices = []; rest = v } | front x v′ ↦ addFront x (batchOf k v′) ]) .indices)
-        ≤ suc k
-    by none few = omega arith
-    by (front x v′) few = omega (arith, few v′)
-
--- a batch has what the queues have
-batchOf-queued : (p : ℕ → Bool) (k : ℕ) (v : WindowView) → all p (v .normalQueue) ≡ true → all p (v .catchQueue) ≡ true →
-    all p (batchOf k v .indices) ≡ true
-unfolding all
-batchOf-queued p k v a b = by (v .condition)
-  where
-    full : (e : ℕ) (c : List ℕ) → all p c ≡ true → all p (batchOf k (requeue (v .normalQueue) c (completed e) v) .indices) ≡ true
-    full e [] h = rw (batchOf-drained v k e (v .normalQueue))
-    full e (x ∷ c) h =
-        ⊎-elim
-        (λ (m : length (x ∷ c) ≤ k).
-        rw (batchOf-all v k e (v .normalQueue) (x ∷ c) (omega arith) m, all-append p (x ∷ c) (take (k - length (x ∷ c)) (v .normalQueue)))
-        (and-intro h (all-take p (k - length (x ∷ c)) (v .normalQueue) a)))
-        (λ (m : k < length (x ∷ c)). rw (batchOf-more v k e (v .normalQueue) (x ∷ c) m) (all-take p k (x ∷ c) h))
-        (le-or-lt (length (x ∷ c)) k)
-
-    by : (s : Condition) → all p (batchOf k (requeue (v .normalQueue) (v .catchQueue) s v) .indices) ≡ true
-    by normal = rw (batchOf-normal v k (v .normalQueue) (v .catchQueue)) (all-take p k (v .normalQueue) a)
-    by (fetching n e) = rw (batchOf-fetching v k n e (v .normalQueue) (v .catchQueue)) (all-take p k (v .catchQueue) b)
-    by (completed e) = full e (v .catchQueue) b
-    by suspended = rw (batchOf-suspended v k (v .normalQueue) (v .catchQueue))
 
 -- ------------------------------------------------------------------------
 -- sendOutput
