@@ -10,15 +10,15 @@ use Rattle.record.specs.declared.Record.{Record}
 use Rattle.record.specs.declared.Taken.{Taken}
 use Rattle.rules.specs.declared.Term.{Term}
 use Rattle.rules.specs.View.{PlayerView}
-use Rattle.rules.specs.Rules.{Outcome, mainRule, catchRule, writtenRule, ackRule, dropRule, joinRule, sendRule, sendOutput}
+use Rattle.rules.specs.Rules.{Outcome, mainRule, ackRule, sendOutput}
 use Rattle.rules.specs.Offers.{Effect, LawfulRule, mainRule-refuses, mainRule-count, catchRule-lawful, writtenRule-lawful, ackRule-lawful, sendRule-lawful, dropRule-lawful, joinRule-lawful}
 use Rattle.player.specs.View.{playerOf}
 use Rattle.delivery.specs.World.{Ack, Step}
 use Rattle.delivery.specs.World as W
-use Rattle.calls.specs.Host.{Sent, Host, endAt, Call, main, catch, written, send, take, ack, late-ack, drop, join, append, reportOf, isLate, MadeTake, MadeAck, Made}
+use Rattle.calls.specs.Host.{Sent, Host, endAt, Call, main, catch, written, send, take, ack, late-ack, drop, join, append, reportOf, isLate, MadeTake, Made}
 use Rattle.calls.specs.Steps.{callStep, lawful-count}
 use Rattle.calls.specs.Answers.{Numbered, main-numbered, catch-numbered, send-numbered, written-numbered, ack-numbered, drop-numbered, join-numbered}
-use Rattle.calls.specs.Held.{Given, given, TakeGiven, takeGiven}
+use Rattle.calls.specs.Held.{Given, given, takeGiven}
 
 pub record CallFor (h : Host) (s : Step) : Type 0 where
   pub call : Call

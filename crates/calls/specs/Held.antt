@@ -16,7 +16,7 @@ use Rattle.record.specs.declared.Record.{Record}
 use Rattle.record.specs.declared.Taken.{Taken}
 use Rattle.record.specs.declared.Answer.the-variants.{Done, OutOfShape, Full}
 use Rattle.record.specs.Record.{outcomeOf, takeEntry, takeNumbers}
-use Rattle.rules.specs.View.{Condition, normal, fetching, completed, suspended, WindowView, noWindow, PlayerView}
+use Rattle.rules.specs.View.{Condition, normal, fetching, completed, suspended, WindowView, PlayerView}
 use Rattle.rules.specs.Rules.{Outcome}
 use Rattle.window.specs.declared.Condition.{Condition as HeldCondition}
 use Rattle.window.specs.declared.Condition.the-variants.{Normal, Fetching, Completed, Suspended}

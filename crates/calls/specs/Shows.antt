@@ -17,7 +17,6 @@ use Rattle.player.specs.declared.Player.{Player}
 use Rattle.player.specs.declared.Played.{Played}
 use Rattle.player.specs.View.{playerOf}
 use Rattle.player.specs.Promise.{Meets}
-use Rattle.player.specs.FirstWindows.{firstWindows-length}
 use Rattle.delivery.specs.World.{Side, World, noSide, sideAt, numbersIn, playerIn, withViews, withSide, calledThen}
 use Rattle.delivery.specs.World as W
 use Rattle.delivery.specs.Worlds.{window-in, withPlayer-player, withSide-player, withWindow-same}
@@ -47,10 +46,6 @@ pub record Gives (r : Played) (o : Outcome) : Type 0 where
 module _ {h : Host} {wd : World} (is : Shows h wd) where
   pub shows-count : length (h .windows) ≡ length (wd .sides)
   shows-count = ap length (is .windows) ∙ length-map (wd .sides) endOf
-
-  pub shows-held-count : length (playerIn wd .windows) ≡ h .player .count
-  unfolding playerOf
-  shows-held-count = ap (λ q. length (q .windows)) (sym (is .player)) ∙ firstWindows-length (h .player .count) (h .player .windows)
 
   pub shows-end : (w : ℕ) → endAt w h ≡ endOf (sideAt w wd)
   shows-end w = ap (λ ds. getD ds w (endOf noSide)) (is .windows) ∙ List·getD-map endOf (wd .sides) w noSide
