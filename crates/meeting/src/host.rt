@@ -61,8 +61,7 @@ impl Host {
         self
     }
 
-    // Serves window w: sends it batches and fetches what it missed, until nothing is ready and nothing is left to fetch, or a call is
-    // refused.
+    // Serves window w: sends it batches and fetches what it missed, until nothing is ready and nothing is left to fetch.
     fn serve(mut self, journal: &[u32], w: u32) -> Host
         requires { ⌜ w < 16 ⌝ }
     {
@@ -74,13 +73,10 @@ impl Host {
         for _ in 0..TURNS {
             let sent = operations::send_on(player, journal, w, &mut output);
             player = sent.player;
-            let answer = sent.answer;
-            tally = tally.sent(answer);
-            if tally.refused != 0 {
-                break;
-            }
             let window = player.windows[at];
             let head = window.head;
+            let answer = sent.answer;
+            tally = tally.sent(answer);
             if let Answer::NothingReady = answer {
                 let condition = head.condition;
                 let Condition::Fetching { next, end: _ } = condition else {
@@ -90,8 +86,15 @@ impl Host {
                 player = caught.player;
                 let fetched = caught.answer;
                 tally = tally.after(fetched);
+            } else if tally.refused != 0 {
+                break;
+            } else if tally.drops() {
+                let left = line::lose(player, journal, w, &output, record, tally);
+                player = left.player;
+                record = left.record;
+                tally = left.tally;
             } else {
-                let left = line::carry(player, journal, w, head, &output, record, tally);
+                let left = line::deliver(player, journal, w, head, &output, record, tally);
                 player = left.player;
                 record = left.record;
                 tally = left.tally;

@@ -38,7 +38,7 @@ fn take_batch(before: Record, output: &[u32; 160], sent: Index, counted: Tally) 
 }
 
 // The batch is written to the line, and the window takes and acknowledges it.
-fn deliver(
+pub(crate) fn deliver(
     player: Player,
     journal: &[u32],
     w: u32,
@@ -62,7 +62,7 @@ fn deliver(
 }
 
 // The line drops when the window has taken the first entry of the batch, and the window joins again with its last index.
-fn lose(
+pub(crate) fn lose(
     player: Player,
     journal: &[u32],
     w: u32,
@@ -84,20 +84,4 @@ fn lose(
         record: kept,
         tally: tally.taken(take).after(drop).after(join),
     }
-}
-
-// Carries a batch that was sent: to its end, or to the line's drop.
-pub(crate) fn carry(
-    player: Player,
-    journal: &[u32],
-    w: u32,
-    head: Head,
-    output: &[u32; 160],
-    record: Record,
-    tally: Tally,
-) -> BatchLeft {
-    if tally.drops() {
-        return lose(player, journal, w, output, record, tally);
-    }
-    deliver(player, journal, w, head, output, record, tally)
 }
