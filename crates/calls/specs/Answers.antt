@@ -13,7 +13,7 @@ use Rattle.rules.specs.View.{PlayerView}
 use Rattle.rules.specs.Rules.{mainRule, catchRule, writtenRule, ackRule, dropRule, joinRule, sendRule, startRule}
 use Rattle.rules.specs.Offers.{startRule-refusals, mainRule-refusals, catchRule-refusals, sendRule-refusals, writtenRule-refusals, ackRule-refusals, dropRule-refusals, joinRule-refusals}
 use Rattle.window.specs.declared.Answer.{Answer}
-use Rattle.window.specs.declared.Answer.the-variants.{Done, OutOfShape, NoSuchWindow, Suspended, NothingToRead, OtherTerm, OtherIndex, NothingReady, LineState, TooManyBatches, CatchUpFull, NoSuchBatch, NotSuspended, BadReport, LastTerm, OutputTooShort}
+use Rattle.window.specs.declared.Answer.the-variants.{Done, OutOfShape, NoSuchWindow, Suspended, NothingToRead, OtherTerm, OtherIndex, NothingReady, LineState, TooManyBatches, CatchUpFull, BadAck, NotSuspended, BadReport, LastTerm, OutputTooShort}
 use Rattle.window.specs.Promise.{numberOf}
 
 -- an answer with this number
@@ -24,7 +24,7 @@ pub record Numbered (n : ℕ) : Type 0 where
 abbrev answers : List Answer
 answers =
     Done ∷ OutOfShape ∷ NoSuchWindow ∷ Suspended ∷ NothingToRead ∷ OtherTerm ∷ OtherIndex ∷ NothingReady ∷ LineState ∷ TooManyBatches
-    ∷ CatchUpFull ∷ NoSuchBatch ∷ NotSuspended ∷ BadReport ∷ LastTerm ∷ OutputTooShort ∷ []
+    ∷ CatchUpFull ∷ BadAck ∷ NotSuspended ∷ BadReport ∷ LastTerm ∷ OutputTooShort ∷ []
 
 -- whether one of some answers has this number
 isIn : List Answer → ℕ → Bool

@@ -2,7 +2,7 @@
 use Prim.Native.Nat.{ℕ, _<_}
 use mathlib.Core.Path.{_≡_, refl}
 use mathlib.Core.List.{List, [], _∷_}
-use mathlib.Core.Bool.{true}
+use mathlib.Core.Bool.{Bool, true}
 use lib.ListN.{length}
 use Rattle.journal.specs.declared.Entry.{Entry}
 use Rattle.journal.specs.Entry.{countOf}
@@ -63,10 +63,10 @@ module _ (h : Host) where
       let g = lawful-given (sendRule-lawful (h .journal) w (length lent) held) (send-numbered (h .journal) w (length lent) held) in
       record { call = send w lent (g .gave) (sendOutput (h .journal) w lent held); same = refl; made = (g .meets, refl) }
 
-  pub call-take : (w : ℕ) → CallFor h (W.take w)
-  call-take w =
+  pub call-take : (w : ℕ) (acks : Bool) → CallFor h (W.take w acks)
+  call-take w acks =
       let g = frontTaken (endAt w h .line) (endAt w h .record′) in
-      record { call = take w (g .gave); same = refl; made = g .made }
+      record { call = take w acks (g .gave); same = refl; made = g .made }
 
   -- an Ack with this term and index
   ack-given : (w : ℕ) (t : Term) (i : ℕ) → Given (h .player) (ackRule (h .journal) w t i held)

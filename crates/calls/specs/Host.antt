@@ -1,5 +1,6 @@
--- Document 01, "Whole runs", of the calls as `src/` has them: what a host holds, what each call is handed and gives back, what the calls
--- promise of that, and what the host holds afterwards. Each call is handed the player, record and journal as the calls before left them.
+-- Document 01, "Whole runs", with document 02's acks (W1), of the calls as `src/` has them: what a host holds, what each call is handed and
+-- gives back, what the calls promise of that, and what the host holds afterwards. Each call is handed the player, record and journal as the
+-- calls before left them.
 use Prim.Native.Nat.{ℕ, _<_}
 use mathlib.Core.Path.{_≡_}
 use mathlib.Core.List.{List, [], _∷_, _++_, map}
@@ -86,13 +87,14 @@ putOn batch d = withLines (d .line ++ batch) (d .back) d
 
 -- A call: what it was handed beside the player, record and journal, and then what it gave back. Send is lent an output and leaves `out`.
 -- Take is lent the front entry of its window's line, Ack is handed the front ack, Join the window's last index, and Start W and each
--- window's last index: the host has no choice there. `late-ack` is an Ack offer of an older term. An append is the host's own.
+-- window's last index: the host has no choice there. A Take says whether it acks an entry that is not the last of its batch. `late-ack` is
+-- an Ack offer of an older term. An append is the host's own.
 pub data Call : Type 0 where
   main : (index : Index) (gave : Played) → Call
   catch : (w : ℕ) (t : Term) (index : Index) (gave : Played) → Call
   written : (w : ℕ) (t : Term) (gave : Played) → Call
   send : (w : ℕ) (lent : List ℕ) (gave : Played) (out : List ℕ) → Call
-  take : (w : ℕ) (gave : Taken) → Call
+  take : (w : ℕ) (acks : Bool) (gave : Taken) → Call
   ack : (w : ℕ) (gave : Played) → Call
   late-ack : (w : ℕ) (t : Term) (index : Index) (gave : Played) → Call
   drop : (w : ℕ) (gave : Played) → Call
@@ -127,7 +129,7 @@ Made h (written w t r) = Meets (h .player) r (writtenRule (h .journal) w t (play
 Made h (send w lent r out) =
     (Meets (h .player) r (sendRule (h .journal) w (length lent) (playerOf (h .player))))
     × (out ≡ sendOutput (h .journal) w lent (playerOf (h .player)))
-Made h (take w t) = MadeTake t (endAt w h .line) (endAt w h .record′)
+Made h (take w acks t) = MadeTake t (endAt w h .line) (endAt w h .record′)
 Made h (ack w r) = MadeAck w r (endAt w h .back) h
 Made h (late-ack w t i r) = (isLate w t h ≡ true) × (Meets (h .player) r (ackRule (h .journal) w t (i .0) (playerOf (h .player))))
 Made h (drop w r) = Meets (h .player) r (dropRule (h .journal) w (playerOf (h .player)))
@@ -164,17 +166,18 @@ batchIn sent t (i ∷ s ∷ k ∷ c ∷ v ∷ out) =
 abbrev pub batchTo : ℕ → Player → List ℕ → List Sent
 batchTo w p out = batchIn (heldFor w p .sent) (heldFor w p .term) out
 
--- the ack of a batch's last entry: the first of its five numbers is its index
+-- the ack of an entry: the first of its five numbers is its index
 abbrev pub ackFor : Sent → Ack
 ackFor s = record { term = s .term; index = getD (s .numbers) 0 0 }
 
--- Take removes the front entry; the last of a batch puts an ack on the way back. From an empty line nothing changes
-abbrev pub takeFront : Taken → List Sent → WindowEnd → WindowEnd
-takeFront t [] d = d
-takeFront t (s ∷ rest) d = record {
+-- Take removes the front entry. Where it `acks`, and always where the entry is the last of its batch, it puts an ack on the way back. From
+-- an empty line nothing changes
+abbrev pub takeFront : Bool → Taken → List Sent → WindowEnd → WindowEnd
+takeFront acks t [] d = d
+takeFront acks t (s ∷ rest) d = record {
   record′ = t .record;
   line = rest;
-  back = cond (s .ends) (d .back ++ (ackFor s ∷ [])) (d .back);
+  back = cond (acks || s .ends) (d .back ++ (ackFor s ∷ [])) (d .back);
   taken = cond (eqb (Take.numberOf (t .answer)) 0) (d .taken ++ (s .numbers ∷ [])) (d .taken);
 }
 
@@ -188,7 +191,7 @@ after (main i r) h = withPlayer (r .player) h
 after (catch w t i r) h = withPlayer (r .player) h
 after (written w t r) h = withPlayer (r .player) h
 after (send w lent r out) h = called r (changed w (putOn (batchTo w (r .player) out))) h
-after (take w t) h = changed w (λ d. takeFront t (d .line) d) h
+after (take w acks t) h = changed w (λ d. takeFront acks t (d .line) d) h
 after (ack w r) h = ackFront w r (endAt w h .back) h
 after (late-ack w t i r) h = withPlayer (r .player) h
 after (drop w r) h = withPlayer (r .player) h

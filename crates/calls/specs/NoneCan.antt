@@ -24,7 +24,7 @@ isWork-step (main i r) = refl
 isWork-step (catch w t i r) = refl
 isWork-step (written w t r) = refl
 isWork-step (send w lent r out) = refl
-isWork-step (take w t) = refl
+isWork-step (take w acks t) = refl
 isWork-step (ack w r) = refl
 isWork-step (late-ack w t i r) = refl
 isWork-step (drop w r) = refl
@@ -55,7 +55,7 @@ module _ {h : Host} {wd : World} (is : Shows h wd) (r : Reached wd) (none : None
   none-steps (W.catch w t i) work = quiet (call-catch h w t i) work
   none-steps (W.written w t) work = quiet (call-written h w t) work
   none-steps (W.send w lent) work = quiet (call-send h w lent) work
-  none-steps (W.take w) work = quiet (call-take h w) work
+  none-steps (W.take w acks) work = quiet (call-take h w acks) work
   none-steps (W.ack w) work = quiet (call-ack h w) work
   none-steps (W.late-ack w t i) work = quiet-late w t i
   none-steps (W.drop w) work = absurd (false≢true work)

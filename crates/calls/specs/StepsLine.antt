@@ -3,7 +3,7 @@ use Prim.Native.Nat.{ℕ, _≤_, _<_}
 use mathlib.Core.Path.{_≡_, refl, sym, ap, ap₂, subst, subst₂, _∙_}
 use mathlib.Core.Logic.{⊎-elim}
 use mathlib.Core.List.{List, [], _∷_, _++_, map, map-append, map-map}
-use mathlib.Core.Bool.{Bool, true, false, cond}
+use mathlib.Core.Bool.{Bool, true, false, cond, _||_}
 use borrow.Author.Tests.{lt-ltb, le-ltb}
 use lib.ListN.{length, length-map, List·getD-eq-default}
 use lib.Seq.{set-getD}
@@ -38,12 +38,12 @@ taken-more l p true = sym (map-append fiveOf l (p ∷ []))
 taken-more l p false = refl
 
 -- a window's end once its front entry is taken
-takeFront-end : (p : Side) (s : W.Sent) (rest : List W.Sent) (t : Taken) →
+takeFront-end : (p : Side) (acks : Bool) (s : W.Sent) (rest : List W.Sent) (t : Taken) →
     Take.outcomeOf t ≡ takeNumbers (fiveOf (s .placed)) (p .record′) →
-    takeFront t (map inNumbers (s ∷ rest)) (endOf p) ≡ endOf (W.takeFront s rest p)
+    takeFront acks t (map inNumbers (s ∷ rest)) (endOf p) ≡ endOf (W.takeFront acks s rest p)
 unfolding W.takeFront
-takeFront-end p s rest t made =
-    let back : List Ack = cond (s .ends) (p .back ++ (record { term = s .term; index = s .placed .index } ∷ [])) (p .back) in
+takeFront-end p acks s rest t made =
+    let back : List Ack = cond (acks || s .ends) (p .back ++ (record { term = s .term; index = s .placed .index } ∷ [])) (p .back) in
     ap (λ l. record { record′ = t .record; line = map inNumbers rest; back = back; taken = l })
     (taken-more (p .taken) (s .placed) (eqb (Take.numberOf (t .answer)) 0))
     ∙ ap (λ o. record {
@@ -66,28 +66,28 @@ module _ {h : Host} {wd : World} (is : Shows h wd) where
       ∙ ap (λ d. withEnd w d h) (shows-end is w))
       is
 
-  take-line : (w : ℕ) (t : Taken) (l : List W.Sent) → MadeTake t (map inNumbers l) (sideAt w wd .record′) →
-      Shows (withEnd w (takeFront t (map inNumbers l) (endOf (sideAt w wd))) h) (takeAtLine w l wd .world)
+  take-line : (w : ℕ) (acks : Bool) (t : Taken) (l : List W.Sent) → MadeTake t (map inNumbers l) (sideAt w wd .record′) →
+      Shows (withEnd w (takeFront acks t (map inNumbers l) (endOf (sideAt w wd))) h) (takeAtLine w acks l wd .world)
   unfolding W.takeFront
-  take-line w t [] made = end-same w
-  take-line w t (s ∷ rest) made =
-      shows-side is w _ (W.takeFront s rest (sideAt w wd)) (takeFront-end (sideAt w wd) s rest t made) refl
+  take-line w acks t [] made = end-same w
+  take-line w acks t (s ∷ rest) made =
+      shows-side is w _ (W.takeFront acks s rest (sideAt w wd)) (takeFront-end (sideAt w wd) acks s rest t made) refl
 
-  pub follows-take : (w : ℕ) (t : Taken) → Made h (take w t) → Follows (take w t) h wd
+  pub follows-take : (w : ℕ) (acks : Bool) (t : Taken) → Made h (take w acks t) → Follows (take w acks t) h wd
   unfolding step after
-  follows-take w t made =
+  follows-take w acks t made =
       let p : Side = sideAt w wd in
       let made′ : MadeTake t (map inNumbers (p .line)) (p .record′) =
       subst (λ d. MadeTake t (d .line) (d .record′)) (shows-end is w) made in
-      let at : Shows (withEnd w (takeFront t (map inNumbers (p .line)) (endOf p)) h) (step (W.take w) wd .world)
+      let at : Shows (withEnd w (takeFront acks t (map inNumbers (p .line)) (endOf p)) h) (step (W.take w acks) wd .world)
       = ⊎-elim
       (λ (n : length (wd .sides) ≤ w).
       rw (le-ltb w (length (wd .sides)) n, sideAt-none wd w n)
       (subst (λ p. Shows (withEnd w (endOf p) h) wd) (sideAt-none wd w n) (end-same w)))
-      (λ (n : w < length (wd .sides)). rw (lt-ltb w (length (wd .sides)) n) (take-line w t (p .line) made′))
+      (λ (n : w < length (wd .sides)). rw (lt-ltb w (length (wd .sides)) n) (take-line w acks t (p .line) made′))
       (le-or-lt (length (wd .sides)) w) in
       record {
-        shows = subst (λ d. Shows (withEnd w (takeFront t (d .line) d) h) (step (W.take w) wd .world)) (sym (shows-end is w)) at;
+        shows = subst (λ d. Shows (withEnd w (takeFront acks t (d .line) d) h) (step (W.take w acks) wd .world)) (sym (shows-end is w)) at;
         anew = refl;
       }
 

@@ -1,6 +1,6 @@
 -- How many steps change anything since the last fault or append: each lowers the work left, which is at most L × (1 + 5 × W).
 use Prim.Native.Nat.{ℕ, zero, suc, _+_, _*_, _-_, _≤_, _<_}
-use mathlib.Core.Path.{_≡_, refl, sym, ap, ap₂, subst, subst⁻¹, _∙_}
+use mathlib.Core.Path.{_≡_, refl, sym, ap, ap₂, subst⁻¹, _∙_}
 use mathlib.Core.Logic.{_⊎_, inl, inr}
 use mathlib.Core.List.{List, [], _∷_}
 use mathlib.Core.Bool.{Bool, true, false, cond}
@@ -84,7 +84,7 @@ workLeft-most wd r =
 -- ------------------------------------------------------------------------
 -- a piece of work lowers it
 
-pub work-lowers : (wd wd′ : World) → Reached wd → Work wd wd′ → (wd′ ≡ wd) ⊎ (workLeft wd′ < workLeft wd)
+pub work-lowers : {acks : Bool} (wd wd′ : World) → Reached wd → Work acks wd wd′ → (wd′ ≡ wd) ⊎ (workLeft wd′ < workLeft wd)
 unfolding workLeft
 work-lowers wd wd′ r (stays e) = inl e
 work-lowers wd wd′ r (mains m) =
@@ -117,7 +117,7 @@ work-lowers wd wd′ r (works w h p′ work e s) =
 -- what a step leaves as it was
 
 -- a step that is neither a fault nor an append leaves the journal and the number of windows
-pub work-most : (wd wd′ : World) → Work wd wd′ → mostWork wd′ ≡ mostWork wd
+pub work-most : {acks : Bool} (wd wd′ : World) → Work acks wd wd′ → mostWork wd′ ≡ mostWork wd
 work-most wd wd′ (stays e) = ap mostWork e
 work-most wd wd′ (mains m) = ap₂ (λ j n. length j * (1 + 5 * n)) (m .journal) (m .count)
 work-most wd wd′ (works w h p′ work e s) = ap mostWork e ∙ ap (λ n. length (wd .journal) * (1 + 5 * n)) (withSide-count w p′ wd)

@@ -2,26 +2,42 @@
 use Prim.Native.Nat.{ℕ, suc, _≤_, _<_}
 use mathlib.Core.Path.{_≡_}
 use mathlib.Core.List.{List, [], _∷_, _++_}
-use mathlib.Core.Bool.{true, false}
+use mathlib.Core.Bool.{Bool, true, false}
 use lib.ListN.{length}
 use Rattle.journal.specs.declared.Entry.{Entry}
 use Rattle.rules.specs.declared.Term.{Term}
 use Rattle.rules.specs.Shape.{shape}
 use Rattle.rules.specs.Window.{isSuspended, wanted, mainAt, fetched, batchOf, freed, acknowledged, dropped, joined, started}
 use Rattle.rules.specs.Offers.{Caught, SentOut, WrittenOff, AckTaken}
-use Rattle.delivery.specs.World.{Sent, Ack, Side, World, sideAt, numbersIn, playerIn, withView, withLines, withSide, takeFront, cleared, Step, drop, join, start, append, step}
+use Rattle.delivery.specs.World.{Sent, Ack, Side, World, sideAt, numbersIn, playerIn, withView, withLines, withSide, takeFront, cleared, Step, main, catch, send, take, ack, late-ack, drop, join, start, append, step}
+use Rattle.delivery.specs.World as W
 use Rattle.delivery.specs.Invariant.{lastOf}
 use Rattle.delivery.specs.KeepSend.{launchedSide}
 use Rattle.delivery.specs.Statement.{isDone, begins}
 
--- the work of one window: Catch, Send, Written, Take or Ack answered 0
-pub data Worked (j : List Entry) (limit w : ℕ) (p p′ : Side) : Type 0 where
-  caught : (t : Term) (i : ℕ) (c : Caught j w t i (p .view)) → p′ ≡ withView (fetched (wanted j w i (p .view)) i (c .upto) (p .view)) p → Worked j limit w p p′
-  sent : (size : ℕ) → SentOut limit size (p .view) → p′ ≡ launchedSide j (batchOf limit (p .view)) p → Worked j limit w p p′
-  written : (t : Term) → WrittenOff t (p .view) → p′ ≡ withView (freed (p .view)) p → Worked j limit w p p′
-  took : (s : Sent) (rest : List Sent) → p .line ≡ s ∷ rest → p′ ≡ takeFront s rest p → Worked j limit w p p′
-  acked : (a : Ack) (rest : List Ack) → p .back ≡ a ∷ rest → AckTaken (a .term) (a .index) (p .view) →
-      p′ ≡ withLines (p .line) rest (withView (acknowledged (a .index) (p .view)) p) → Worked j limit w p p′
+-- whether a step is a Take that acks its entry even if that is not the last of its batch
+abbrev pub acksEarly : Step → Bool
+acksEarly (main i) = false
+acksEarly (catch w t i) = false
+acksEarly (W.written w t) = false
+acksEarly (send w out) = false
+acksEarly (take w acks) = acks
+acksEarly (ack w) = false
+acksEarly (late-ack w t i) = false
+acksEarly (drop w) = false
+acksEarly (join w) = false
+acksEarly (start b) = false
+acksEarly (append e) = false
+
+-- the work of one window: Catch, Send, Written, Take, which may ack any entry or not, or Ack answered 0
+pub data Worked (j : List Entry) (limit w : ℕ) (acks : Bool) (p p′ : Side) : Type 0 where
+  caught : (t : Term) (i : ℕ) (c : Caught j w t i (p .view)) →
+      p′ ≡ withView (fetched (wanted j w i (p .view)) i (c .upto) (p .view)) p → Worked j limit w acks p p′
+  sent : (size : ℕ) → SentOut limit size (p .view) → p′ ≡ launchedSide j (batchOf limit (p .view)) p → Worked j limit w acks p p′
+  written : (t : Term) → WrittenOff t (p .view) → p′ ≡ withView (freed (p .view)) p → Worked j limit w acks p p′
+  took : (s : Sent) (rest : List Sent) → p .line ≡ s ∷ rest → p′ ≡ takeFront acks s rest p → Worked j limit w acks p p′
+  acked : (a : Ack) (rest : List Ack) → p .back ≡ a ∷ rest → AckTaken j w (a .term) (a .index) (p .view) →
+      p′ ≡ withLines (p .line) rest (withView (acknowledged (a .index) (p .view)) p) → Worked j limit w acks p p′
 
 -- Main answered 0: the next index is read, and each window does as its own rule says
 pub record Mained (wd wd′ : World) : Type 0 where
@@ -34,17 +50,17 @@ pub record Mained (wd wd′ : World) : Type 0 where
   pub shaped : shape (numbersIn wd′) (playerIn wd′) ≡ true
 
 -- a step that is neither a fault nor an append
-pub data Work (wd wd′ : World) : Type 0 where
-  stays : wd′ ≡ wd → Work wd wd′
-  mains : Mained wd wd′ → Work wd wd′
-  works : (w : ℕ) → w < length (wd .sides) → (p′ : Side) → Worked (wd .journal) (wd .limit) w (sideAt w wd) p′ → wd′ ≡ withSide w p′ wd →
-      shape (numbersIn wd′) (playerIn wd′) ≡ true → Work wd wd′
+pub data Work (acks : Bool) (wd wd′ : World) : Type 0 where
+  stays : wd′ ≡ wd → Work acks wd wd′
+  mains : Mained wd wd′ → Work acks wd wd′
+  works : (w : ℕ) → w < length (wd .sides) → (p′ : Side) → Worked (wd .journal) (wd .limit) w acks (sideAt w wd) p′ →
+      wd′ ≡ withSide w p′ wd → shape (numbersIn wd′) (playerIn wd′) ≡ true → Work acks wd wd′
 
 -- a step that does the work of window w
 pub record WorksAt (s : Step) (wd : World) (w : ℕ) : Type 0 where
   pub within : w < length (wd .sides)
   pub after : Side
-  pub work : Worked (wd .journal) (wd .limit) w (sideAt w wd) after
+  pub work : Worked (wd .journal) (wd .limit) w (acksEarly s) (sideAt w wd) after
   pub world : step s wd .world ≡ withSide w after wd
   pub shaped : shape (numbersIn (step s wd .world)) (playerIn (step s wd .world)) ≡ true
 
@@ -58,7 +74,7 @@ pub record Restarted (wd wd′ : World) : Type 0 where
 
 -- what a step does
 pub data Facts (s : Step) (wd : World) : Type 0 where
-  working : begins s (step s wd .reply) ≡ false → Work wd (step s wd .world) → Facts s wd
+  working : begins s (step s wd .reply) ≡ false → Work (acksEarly s) wd (step s wd .world) → Facts s wd
   dropping : (w : ℕ) → s ≡ drop w → isDone (step s wd .reply) ≡ true → w < length (wd .sides) →
       step s wd .world ≡ withSide w (withView (dropped (sideAt w wd .view)) (sideAt w wd)) wd →
       shape (numbersIn (step s wd .world)) (playerIn (step s wd .world)) ≡ true → Facts s wd

@@ -1,4 +1,4 @@
--- Runs computed on the rules. An example computes the definitions themselves, and no law of them is used: each is true by `refl`.
+-- Runs, and two states that no run reaches, computed on the rules. An example computes the definitions themselves, and no law of them is used: each is true by `refl`.
 use Prim.Native.Nat.{ℕ, _+_, _*_}
 use mathlib.Core.Path.{_≡_, refl}
 use mathlib.Core.List.{List, [], _∷_}
@@ -8,11 +8,12 @@ use lib.Dec.{leb}
 use Rattle.journal.specs.declared.Entry.{Entry}
 use Rattle.journal.specs.Entry.{entry4, numbersOf, entriesOf, entryAt, hasWindow, isFor}
 use Rattle.lists.specs.All.{all}
+use Rattle.lists.specs.Above.{above}
 use Rattle.record.specs.Record.{raceAfter, racesAfter, recordAfter, takeEntry, takeNumbers}
 use Rattle.rules.specs.declared.Term.{Term}
-use Rattle.rules.specs.View.{PlayerView}
+use Rattle.rules.specs.View.{normal, WindowView, PlayerView}
 use Rattle.rules.specs.Shape.{windowShape, shape}
-use Rattle.rules.specs.Window.{check, enqueue, mainAt, fetched, catchIn, catchAt, readyIn, batchOf, launched, sendAt, writtenAt, struck, ackAt, dropAt, joinAt}
+use Rattle.rules.specs.Window.{check, enqueue, mainAt, fetched, catchIn, catchAt, readyIn, batchOf, launched, sendAt, writtenAt, ackAt, dropAt, joinAt}
 use Rattle.rules.specs.Rules.{operate, mapWindows, mainRule, catchRule, writtenRule, ackRule, dropRule, joinRule, sendRule, areReports, least, startRule}
 use Rattle.delivery.specs.World.{World, sideAt, withViews, withPlayer, onLine, takeFront, Step, main, catch, written, send, take, ack, drop, join, start, Reply, answered, empty, step, run, replies, opened}
 use Rattle.delivery.specs.Same.{sameList, sameWindow, sameRace, sameRecord, sameEntry, sameSent, sameAck, sameSide, sameWorld}
@@ -24,7 +25,7 @@ unfolding
     replies run step opened withViews withPlayer onLine takeFront
     startRule areReports least mainRule catchRule writtenRule ackRule dropRule joinRule sendRule operate mapWindows
     shape windowShape all
-    check enqueue mainAt fetched catchIn catchAt readyIn batchOf launched sendAt writtenAt struck ackAt dropAt joinAt
+    check enqueue mainAt fetched catchIn catchAt readyIn batchOf launched sendAt writtenAt ackAt dropAt joinAt above
     raceAfter racesAfter recordAfter takeEntry takeNumbers
     numbersOf entriesOf entryAt hasWindow isFor
 computed = tt
@@ -66,7 +67,8 @@ afternoon = entry4 3 1 1 50400 ∷ entry4 1 2 1 350 ∷ entry4 2 3 1 0 ∷ []
 -- the line is then empty both ways and free, and the window is Normal.
 abbrev pub dropSteps : List Step
 dropSteps =
-    main 1 ∷ main 2 ∷ send 0 room ∷ take 0 ∷ take 0 ∷ drop 0 ∷ ack 0 ∷ join 0 ∷ ack 0 ∷ main 3 ∷ catch 0 (term 2) 3 ∷ written 0 (term 2) ∷ []
+    main 1 ∷ main 2 ∷ send 0 room ∷ take 0 false ∷ take 0 false ∷ drop 0 ∷ ack 0 ∷ join 0 ∷ ack 0 ∷ main 3 ∷ catch 0 (term 2) 3
+    ∷ written 0 (term 2) ∷ []
 
 pub record DropBeforeAck : Type 0 where
   pub answers : replies (openedWith afternoon 2) dropSteps ≡
@@ -81,7 +83,7 @@ drop-before-ack = record { answers = refl; window0 = refl; acknowledged = refl }
 -- the player starts anew in the middle of a batch: the second entry was on the line and is sent again, and taken once
 abbrev pub startSteps : List Step
 startSteps =
-    main 1 ∷ main 2 ∷ send 0 room ∷ take 0 ∷ start 2 ∷ take 0 ∷ main 1 ∷ main 2 ∷ send 0 room ∷ take 0 ∷ ack 0 ∷ []
+    main 1 ∷ main 2 ∷ send 0 room ∷ take 0 false ∷ start 2 ∷ take 0 false ∷ main 1 ∷ main 2 ∷ send 0 room ∷ take 0 false ∷ ack 0 ∷ []
 
 pub record StartInBatch : Type 0 where
   pub answers : replies (openedWith afternoon 2) startSteps ≡
@@ -92,6 +94,50 @@ pub start-in-batch : StartInBatch
 unfolding computed
 start-in-batch = record { answers = refl; window0 = refl }
 
+-- A window acks in the middle of a batch: its first entry is acknowledged, and the batch is not. The line drops with the second entry on it;
+-- the window joins from what it has taken, fetches the second entry anew and takes it, and all is acknowledged.
+abbrev pub earlySteps : List Step
+earlySteps = main 1 ∷ main 2 ∷ send 0 room ∷ take 0 true ∷ ack 0 ∷ []
+
+abbrev pub resumedSteps : List Step
+resumedSteps = drop 0 ∷ join 0 ∷ take 0 false ∷ catch 0 (term 2) 2 ∷ send 0 room ∷ take 0 false ∷ ack 0 ∷ main 3 ∷ ack 0 ∷ []
+
+pub record AckInBatch : Type 0 where
+  pub answers : replies (openedWith afternoon 2) earlySteps ≡ done ∷ done ∷ done ∷ done ∷ done ∷ []
+  pub early : sideAt 0 (run (openedWith afternoon 2) earlySteps) .view .acked ≡ 1
+  pub out : sideAt 0 (run (openedWith afternoon 2) earlySteps) .view .batches ≡ 2 ∷ []
+  pub resumed : replies (run (openedWith afternoon 2) earlySteps) resumedSteps ≡
+      done ∷ done ∷ empty ∷ done ∷ done ∷ done ∷ done ∷ done ∷ empty ∷ []
+  pub window0 : shownAt 0 (run (run (openedWith afternoon 2) earlySteps) resumedSteps) ≡ record { last = 2; count = 2 }
+  pub acknowledged : sideAt 0 (run (run (openedWith afternoon 2) earlySteps) resumedSteps) .view .acked ≡ 2
+  pub none : sideAt 0 (run (run (openedWith afternoon 2) earlySteps) resumedSteps) .view .batches ≡ []
+
+pub ack-in-batch : AckInBatch
+unfolding computed
+ack-in-batch = record { answers = refl; early = refl; out = refl; resumed = refl; window0 = refl; acknowledged = refl; none = refl }
+
+-- Two states that no run reaches. Batches that do not rise: what is above the index stays, in order, wherever it stands. A sent index below
+-- the acknowledged one: an index between them is not taken, though a batch ends there.
+abbrev pub heldWith : ℕ → ℕ → List ℕ → WindowView
+heldWith acked sent batches = record {
+  term = term 1;
+  acked = acked;
+  sent = sent;
+  busy = false;
+  batches = batches;
+  normalQueue = [];
+  catchQueue = [];
+  condition = normal;
+}
+
+pub record AckOutsideRuns : Type 0 where
+  pub byValue : ackAt afternoon 0 (term 1) 1 (heldWith 0 3 (3 ∷ 1 ∷ 2 ∷ 3 ∷ 0 ∷ [])) .next ≡ heldWith 1 3 (3 ∷ 2 ∷ 3 ∷ [])
+  pub behind : ackAt afternoon 0 (term 1) 2 (heldWith 3 1 (2 ∷ [])) .answer ≡ 11
+
+pub ack-outside-runs : AckOutsideRuns
+unfolding computed
+ack-outside-runs = record { byValue = refl; behind = refl }
+
 -- ------------------------------------------------------------------------
 -- The bound of demand 3
 
@@ -99,8 +145,8 @@ start-in-batch = record { answers = refl; window0 = refl }
 abbrev pub fiveMoves : List Step
 fiveMoves =
     main 1 ∷ drop 0 ∷ drop 1 ∷ join 0 ∷ join 1
-    ∷ catch 0 (term 2) 1 ∷ send 0 room ∷ written 0 (term 2) ∷ take 0 ∷ ack 0
-    ∷ catch 1 (term 2) 1 ∷ send 1 room ∷ written 1 (term 2) ∷ take 1 ∷ ack 1 ∷ []
+    ∷ catch 0 (term 2) 1 ∷ send 0 room ∷ written 0 (term 2) ∷ take 0 false ∷ ack 0
+    ∷ catch 1 (term 2) 1 ∷ send 1 room ∷ written 1 (term 2) ∷ take 1 false ∷ ack 1 ∷ []
 
 abbrev pub oneEntry : World
 oneEntry = openedWith (entry4 3 1 1 50400 ∷ []) 2

@@ -5,13 +5,12 @@ use mathlib.Core.Logic.{⊎-elim}
 use mathlib.Core.List.{List, [], _∷_, _++_, map, append-nil}
 use mathlib.Core.Bool.{true, false, true≢false, false≢true}
 use native.Mathlib.Omega.{arith}
-use borrow.Author.Tests.{eq-eqb}
 use lib.ListN.{length, take, replicate, length-replicate}
-use Rattle.lists.specs.Cases.{true-or-false, le-or-lt}
+use Rattle.lists.specs.Cases.{true-or-false, le-or-lt, and-left}
+use Rattle.lists.specs.All.{all}
 use Rattle.journal.specs.declared.Entry.{Entry}
-use Rattle.journal.specs.Entry.{placedAt}
+use Rattle.journal.specs.Entry.{placedAt, entriesOf, isFor}
 use Rattle.journal.specs.Due.{due, due-split}
-use Rattle.lists.specs.Elem.{elem}
 use Rattle.journal.specs.Own.{own, own-due}
 use Rattle.rules.specs.View.{Condition, normal, fetching, completed, suspended, WindowView}
 use Rattle.rules.specs.Shape.{isEmpty}
@@ -22,10 +21,11 @@ use Rattle.delivery.specs.World.{Sent, Ack, Side, World, sideAt, numbers
 use Rattle.delivery.specs.World as W
 use Rattle.delivery.specs.SameLaws.{seen, WorldIs, sameWorld-equal}
 use Rattle.delivery.specs.Statement.{isWork, NoneCan}
-use Rattle.delivery.specs.Invariant.{Queues, Inv, Reached, lastOf, lineEntries, endsOf}
+use Rattle.delivery.specs.Invariant.{Queues, Inv, Reached, lastOf, lineEntries}
+use Rattle.delivery.specs.Lines.{unacked-none}
 use Rattle.delivery.specs.Queued.{isEmpty-append}
 use Rattle.delivery.specs.Measure.{viewWork, sideWork, worked-lowers}
-use Rattle.delivery.specs.Worlds.{count-in, window-in, windows-in, withSide-here}
+use Rattle.delivery.specs.Worlds.{entries-in, count-in, window-in, windows-in, withSide-here}
 use Rattle.delivery.specs.Effects.{WorksAt}
 use Rattle.delivery.specs.Stepped.{catch-works, written-works}
 use Rattle.delivery.specs.SteppedLine.{send-works, ack-works, take-works}
@@ -128,24 +128,27 @@ module _ (wd : World) (r : Reached wd) (none : NoneCan wd) where
 
     line-empty : (l : List Sent) → sideAt w wd .line ≡ l → l ≡ []
     line-empty [] e = refl
-    line-empty (s ∷ rest) e = absurd (no-work w (W.take w) refl (take-works wd (r .inShape) w s rest h e))
+    line-empty (s ∷ rest) e = absurd (no-work w (W.take w false) refl (take-works wd (r .inShape) w false s rest h e))
 
     back-empty : (b : List Ack) → sideAt w wd .back ≡ b → b ≡ []
+    unfolding all
     back-empty [] e = refl
     back-empty (a ∷ rest) e =
         let un = rw e at (r .each w h .unacked) in
         let i : ℕ = a .index in
-        let out : elem i (v .batches) ≡ true = rw (un .batchesIs here, eq-eqb i i refl) in
+        let most : i ≤ v .sent = omega (arith, un .backRises .1, r .each w h .flight .lastSent) in
+        let own : isFor (entriesOf (numbersIn wd)) w i ≡ true
+        = ap (λ j. isFor j w i) (entries-in wd) ∙ and-left (isFor (wd .journal) w i) _ (un .backOwn) in
         let term : a .term ≡ windowAt w (playerIn wd) .term = un .backTerms .0 ∙ ap (λ x. x .term) (sym (window-in w wd)) in
         absurd (no-work w (ack w) refl
         (ack-works wd (r .inShape) w a rest h e
         (subst⁻¹ (λ t. ackRule (numbersIn wd) w t i (playerIn wd) .answer ≡ 0) term
-        (ackRule-can (numbersIn wd) w (playerIn wd) (r .inShape) within i here′ (in-player (λ x. elem i (x .batches) ≡ true) out)))))
+        (ackRule-can (numbersIn wd) w (playerIn wd) (r .inShape) within i here′ (in-player (λ x. x .acked < i) (un .backRises .0))
+        (in-player (λ x. i ≤ x .sent) most) own))))
 
-    few-out : length (sideAt w wd .view .batches) < 8
-    unfolding endsOf
-    few-out =
-        rw (r .each w h .unacked .batchesIs here, back-empty (sideAt w wd .back) refl, line-empty (sideAt w wd .line) refl) (omega arith)
+    -- no batch is unacknowledged
+    none-out : sideAt w wd .view .batches ≡ []
+    none-out = unacked-none (rw (back-empty (sideAt w wd .back) refl, line-empty (sideAt w wd .line) refl) at (r .each w h .unacked))
 
     -- nothing is ready
     none-ready : isEmpty (batchOf (wd .limit) (sideAt w wd .view) .indices) ≡ true
@@ -156,7 +159,7 @@ module _ (wd : World) (r : Reached wd) (none : NoneCan wd) where
         absurd (no-work w (send w out) refl
         (send-works wd (r .inShape) w out
         (sendRule-can (numbersIn wd) w (playerIn wd) (r .inShape) within (length out) here′ (in-player (λ x. x .busy ≡ false) line-free)
-        (in-player (λ x. length (x .batches) < 8) few-out) (omega (arith, length-replicate {A = ℕ} (5 * wd .limit) 0))
+        (in-player (λ x. length (x .batches) < 8) (rw none-out (omega arith))) (omega (arith, length-replicate {A = ℕ} (5 * wd .limit) 0))
         (in-player (λ x. isEmpty (batchOf (wd .limit) x .indices) ≡ false) e)))))
         (true-or-false (isEmpty (batchOf (wd .limit) v .indices)))
 

@@ -6,8 +6,10 @@ use mathlib.Core.List.{List, [], _∷_, _++_, map}
 use mathlib.Core.Bool.{Bool, true, false, cond}
 use lib.ListN.{length}
 use Rattle.journal.specs.declared.Entry.{Entry}
-use Rattle.journal.specs.Entry.{Placed, placedAt}
+use Rattle.journal.specs.Entry.{Placed, placedAt, isFor}
 use Rattle.journal.specs.Due.{due}
+use Rattle.lists.specs.All.{all}
+use Rattle.lists.specs.Elem.{elem}
 use Rattle.lists.specs.Rising.{Rising}
 use Rattle.record.specs.declared.Record.{Record}
 use Rattle.record.specs.Record.{newRecord, takeAll}
@@ -64,13 +66,17 @@ unfoldable pub endsOf : List Sent → List ℕ
 endsOf [] = []
 endsOf (s ∷ l) = cond (s .ends) (s .placed .index ∷ endsOf l) (endsOf l)
 
--- The acks on the way back rise from the acknowledged index to last. The unacknowledged batches are these acks, then the batches on the
--- line; a Suspended window (`away`) has none.
-pub record Unacknowledged (away : Bool) (t : Term) (acked last : ℕ) (batches : List ℕ) (line : List Sent) (back : List Ack) : Type 0 where
+-- The acks on the way back are of the window's own entries, and rise from the acknowledged index to last. The unacknowledged batches rise
+-- from the acknowledged index to sent, and each has its ack on the way back or its last entry on the line; a Suspended window (`away`) has
+-- none.
+pub record Unacknowledged (j : List Entry) (w : ℕ) (away : Bool) (t : Term) (acked last sent : ℕ) (batches : List ℕ) (line : List Sent)
+    (back : List Ack) : Type 0 where
   pub ackedLast : acked ≤ last
   pub backTerms : BackTerms t back
+  pub backOwn : all (isFor j w) (backIndices back) ≡ true
   pub backRises : Rising acked (backIndices back) last
-  pub batchesIs : away ≡ false → batches ≡ backIndices back ++ endsOf line
+  pub batchesRise : Rising acked batches sent
+  pub batchesOut : (x : ℕ) → elem x batches ≡ true → elem x (backIndices back ++ endsOf line) ≡ true
   pub noBatches : away ≡ true → batches ≡ []
 
 -- ------------------------------------------------------------------------
@@ -125,7 +131,8 @@ pub record Inv (j : List Entry) (current w : ℕ) (p : Side) : Type 0 where
   pub taken : Taken j w (p .record′) (p .taken)
   pub flight : InFlight j w (lastOf p) (p .view .sent) (p .view .term) (p .line)
   pub unacked :
-      Unacknowledged (isSuspended (p .view .condition)) (p .view .term) (p .view .acked) (lastOf p) (p .view .batches) (p .line) (p .back)
+      Unacknowledged j w (isSuspended (p .view .condition)) (p .view .term) (p .view .acked) (lastOf p) (p .view .sent) (p .view .batches)
+      (p .line) (p .back)
   pub queues : QueuesOf j current w (p .view) (p .view .condition)
   pub busySent : p .view .busy ≡ true → 1 ≤ p .view .sent
 

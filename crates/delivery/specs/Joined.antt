@@ -29,7 +29,7 @@ use Rattle.delivery.specs.Reach.{reached-step}
 -- ------------------------------------------------------------------------
 -- the number of windows
 
-work-count : (wd wd′ : World) → Work wd wd′ → length (wd′ .sides) ≡ length (wd .sides)
+work-count : {acks : Bool} (wd wd′ : World) → Work acks wd wd′ → length (wd′ .sides) ≡ length (wd .sides)
 work-count wd wd′ (stays e) = ap (λ x. length (x .sides)) e
 work-count wd wd′ (mains m) = m .count
 work-count wd wd′ (works w h p′ work e s) = ap (λ x. length (x .sides)) e ∙ withSide-count w p′ wd
@@ -75,7 +75,7 @@ after-away : (s s′ : Condition) → ConditionAfter s s′ → isSuspended s′
 after-away s s′ (B.same e) = ap isSuspended e
 after-away s s′ (B.emptied end e n) = ap isSuspended n ∙ sym (ap isSuspended e)
 
-worked-away : (j : List Entry) (limit w : ℕ) (p p′ : Side) → Worked j limit w p p′ → away p′ ≡ away p
+worked-away : {acks : Bool} (j : List Entry) (limit w : ℕ) (p p′ : Side) → Worked j limit w acks p p′ → away p′ ≡ away p
 unfolding takeFront
 worked-away j limit w p p′ (E.caught t i k e) = ap away e ∙ fetched-away _ i (k .upto) (p .view) ∙ sym (ap isSuspended (k .was))
 worked-away j limit w p p′ (E.sent size out e) =
@@ -92,7 +92,7 @@ replaced-away : (wd wd′ : World) (v w : ℕ) (p′ : Side) → v < length (wd 
 replaced-away wd wd′ v w p′ h e b this other =
     ap (λ x. away (sideAt w x)) e ∙ getD-set-each (λ u p. away p ≡ b u) (wd .sides) v w p′ noSide h this other
 
-work-away : (wd wd′ : World) (w : ℕ) → w < length (wd .sides) → Work wd wd′ → away (sideAt w wd′) ≡ away (sideAt w wd)
+work-away : {acks : Bool} (wd wd′ : World) (w : ℕ) → w < length (wd .sides) → Work acks wd wd′ → away (sideAt w wd′) ≡ away (sideAt w wd)
 work-away wd wd′ w h (stays e) = ap (λ x. away (sideAt w x)) e
 work-away wd wd′ w h (mains m) = ap away (m .each w h) ∙ main-away (wd .journal) w (suc (wd .current)) (sideAt w wd .view)
 work-away wd wd′ w h (works v k p′ work e s) =
@@ -106,7 +106,7 @@ joined-quiet w (main i) r b e = refl
 joined-quiet w (catch v t i) r b e = refl
 joined-quiet w (written v t) r b e = refl
 joined-quiet w (send v out) r b e = refl
-joined-quiet w (W.take v) r b e = refl
+joined-quiet w (W.take v acks) r b e = refl
 joined-quiet w (ack v) r b e = refl
 joined-quiet w (late-ack v t i) r b e = refl
 joined-quiet w (drop v) r b e = rw e

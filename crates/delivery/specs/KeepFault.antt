@@ -10,15 +10,16 @@ use borrow.Author.Tests.{lt-ltb, le-ltb}
 use lib.ListN.{length, length-append}
 use lib.Dec.{eqb}
 use Rattle.journal.specs.declared.Entry.{Entry}
-use Rattle.journal.specs.Entry.{placedAt}
+use Rattle.journal.specs.Entry.{placedAt, isFor}
 use Rattle.journal.specs.EntryLaws.{entryAt-append, isFor-append}
-use Rattle.lists.specs.Cases.{le-or-lt}
+use Rattle.lists.specs.Cases.{le-or-lt, and-left, and-right, and-intro}
+use Rattle.lists.specs.All.{all}
 use Rattle.journal.specs.Due.{due, due-empty, due-rising, due-append}
 use Rattle.lists.specs.Rising.{Rising}
 use Rattle.rules.specs.View.{Condition, normal, fetching, completed, suspended, WindowView}
 use Rattle.rules.specs.Window.{isSuspended, dropped, joined, started}
 use Rattle.delivery.specs.World.{Side, withView, cleared}
-use Rattle.delivery.specs.Invariant.{Taken, Queues, QueuesOf, Inv, lastOf, endsOf}
+use Rattle.delivery.specs.Invariant.{Taken, Queues, QueuesOf, Inv, lastOf, backIndices}
 use Rattle.delivery.specs.Queued.{holds-none, holds-journal}
 
 -- ------------------------------------------------------------------------
@@ -31,8 +32,10 @@ keep-drop inv = record {
   unacked = record {
     ackedLast = inv .unacked .ackedLast;
     backTerms = inv .unacked .backTerms;
+    backOwn = inv .unacked .backOwn;
     backRises = inv .unacked .backRises;
-    batchesIs = λ h. absurd (true≢false h);
+    batchesRise = tt;
+    batchesOut = λ x h. absurd (false≢true h);
     noBatches = λ h. refl;
   };
   queues = record { normalIs = refl; catchIs = refl };
@@ -45,7 +48,7 @@ keep-drop inv = record {
 -- a window that begins anew from what it has taken
 pub begun : {j : List Entry} {c w : ℕ} (p : Side) (v : WindowView) → Taken j w (p .record′) (p .taken) → v .acked ≡ lastOf p →
     v .sent ≡ lastOf p → v .busy ≡ false → v .batches ≡ [] → QueuesOf j c w v (v .condition) → Inv j c w (cleared (withView v p))
-unfolding endsOf
+unfolding all
 begun {j} {c} {w} p v taken acked sent free none queues = record {
   taken = taken;
   flight = record {
@@ -54,7 +57,15 @@ begun {j} {c} {w} p v taken acked sent free none queues = record {
     lineIs = ap (map (placedAt j)) (sym (due-empty j w (lastOf p) (v .sent) (omega arith)));
     lineTerms = tt;
   };
-  unacked = record { ackedLast = omega arith; backTerms = tt; backRises = tt; batchesIs = λ h. none; noBatches = λ h. none };
+  unacked = record {
+    ackedLast = omega arith;
+    backTerms = tt;
+    backOwn = refl;
+    backRises = tt;
+    batchesRise = rw none tt;
+    batchesOut = λ x h. absurd (false≢true (rw none at h));
+    noBatches = λ h. none;
+  };
   queues = queues;
   busySent = λ h. absurd (true≢false (sym h ∙ free));
 }
@@ -106,6 +117,13 @@ module _ (j : List Entry) (e : Entry) (w : ℕ) where
   due-placed a b h =
       sym (placed-append a b (due j w a b) h (due-rising j w a b)) ∙ ap (map (placedAt longer)) (sym (due-append j e w a b h))
 
+  owned-append : (a b : ℕ) (xs : List ℕ) → b ≤ length j → Rising a xs b → all (isFor j w) xs ≡ true → all (isFor longer w) xs ≡ true
+  unfolding all
+  owned-append a b [] h r own = refl
+  owned-append a b (x ∷ xs) h r own =
+      and-intro (isFor-append j e w x (omega (arith, r .1)) ∙ and-left (isFor j w x) _ own)
+      (owned-append x b xs h (r .2) (and-right (isFor j w x) _ own))
+
   queues-append : (c : ℕ) (v : WindowView) (s : Condition) → c ≤ length j → QueuesOf j c w v s → QueuesOf longer c w v s
   queues-append c v normal h is = record { ahead = is .ahead; normalHas = holds-journal e h (is .normalHas) }
   queues-append c v (fetching next end) h is = record {
@@ -138,7 +156,17 @@ module _ (j : List Entry) (e : Entry) (w : ℕ) where
       lineIs = inv .flight .lineIs ∙ due-placed (lastOf p) (p .view .sent) (inv .flight .sentIn);
       lineTerms = inv .flight .lineTerms;
     };
-    unacked = inv .unacked;
+    unacked = record {
+      ackedLast = inv .unacked .ackedLast;
+      backTerms = inv .unacked .backTerms;
+      backOwn =
+          owned-append (p .view .acked) (lastOf p) (backIndices (p .back)) (inv .taken .lastIn) (inv .unacked .backRises)
+          (inv .unacked .backOwn);
+      backRises = inv .unacked .backRises;
+      batchesRise = inv .unacked .batchesRise;
+      batchesOut = inv .unacked .batchesOut;
+      noBatches = inv .unacked .noBatches;
+    };
     queues = queues-append c (p .view) (p .view .condition) h (inv .queues);
     busySent = inv .busySent;
   }

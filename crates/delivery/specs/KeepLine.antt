@@ -1,22 +1,25 @@
 -- Written, Ack and Take keep the invariant of their window.
 use Prim.Native.Nat.{ℕ, _≤_, _<_}
-use mathlib.Core.Path.{_≡_, refl, sym, ap, ap₂, subst, subst⁻¹, _∙_}
+use mathlib.Core.Path.{_≡_, refl, sym, ap, ap₂, subst⁻¹, _∙_}
 use mathlib.Core.List.{List, [], _∷_, _++_, map, map-append, append-assoc}
-use mathlib.Core.Bool.{Bool, true, false, cond, true≢false, or-true}
+use mathlib.Core.Bool.{Bool, true, false, cond, _&&_, _||_, true≢false, or-true}
 use native.Mathlib.Omega.{arith}
 use lib.ListN.{length, length-map}
-use lib.Dec.{eqb}
+use lib.Dec.{eqb, ltb}
 use Rattle.journal.specs.declared.Entry.{Entry}
-use Rattle.journal.specs.Entry.{Placed, placedAt}
+use Rattle.journal.specs.Entry.{Placed, placedAt, isFor}
 use Rattle.journal.specs.Due.{due, due-split, due-length, Begins, due-cons}
+use Rattle.lists.specs.Cases.{and-left, and-right}
+use Rattle.lists.specs.All.{all, all-append}
+use Rattle.lists.specs.Elem.{elem, elem-later, elem-between}
 use Rattle.lists.specs.Rising.{Rising, rising-append, rising-widen}
 use Rattle.record.specs.declared.Record.{Record}
 use Rattle.record.specs.Record.{newRecord, takeEntry}
 use Rattle.record.specs.Laws.{takeNumbers-placed, takeEntry-answers, takeEntry-last, takeAll-snoc, takeAll-new-count}
 use Rattle.rules.specs.declared.Term.{Term}
-use Rattle.rules.specs.View.{Condition, normal, fetching, completed, suspended}
-use Rattle.rules.specs.Window.{freed, struck, acknowledged}
-use Rattle.rules.specs.Offers.{struck-front, AckTaken}
+use Rattle.rules.specs.View.{Condition, normal, fetching, completed, suspended, WindowView}
+use Rattle.rules.specs.Window.{freed, acknowledged}
+use Rattle.rules.specs.Offers.{acknowledged-leaves, acknowledged-rises, AckTaken}
 use Rattle.delivery.specs.World.{Sent, Ack, Side, withView, withLines, takeFront}
 use Rattle.delivery.specs.Invariant.{Taken, InFlight, Unacknowledged, Queues, QueuesOf, Inv, lastOf, backIndices, lineEntries, endsOf, BackTerms}
 use Rattle.delivery.specs.Lines.{backTerms-append}
@@ -36,27 +39,35 @@ keep-written inv = record {
 -- ------------------------------------------------------------------------
 -- Ack
 
--- the front ack is the oldest batch
-unacked-struck : {away : Bool} {t : Term} {acked last : ℕ} {batches : List ℕ} {line : List Sent} (a : Ack) {rest : List Ack} →
-    away ≡ false → Unacknowledged away t acked last batches line (a ∷ rest) →
-    Unacknowledged away t (a .index) last (struck (a .index) batches) line rest
-unacked-struck {line = line} a {rest} here un = record {
-  ackedLast = un .backRises .1;
-  backTerms = un .backTerms .1;
-  backRises = un .backRises .2;
-  batchesIs = λ h. ap (struck (a .index)) (un .batchesIs h) ∙ struck-front (a .index) (backIndices rest ++ endsOf line);
-  noBatches = λ h. absurd (true≢false (sym h ∙ here));
-}
+-- the batches that are left are those whose ack comes after the front ack or whose last entry is on the line
+unacked-struck : {j : List Entry} {w last : ℕ} {away : Bool} {line : List Sent} (v : WindowView) (a : Ack) {rest : List Ack} → away ≡ false →
+    Unacknowledged j w away (v .term) (v .acked) last (v .sent) (v .batches) line (a ∷ rest) →
+    Unacknowledged j w away (v .term) (a .index) last (v .sent) (acknowledged (a .index) v .batches) line rest
+unfolding all
+unacked-struck {j} {w} {line = line} v a {rest} here un =
+    let i : ℕ = a .index in
+    record {
+      ackedLast = un .backRises .1;
+      backTerms = un .backTerms .1;
+      backOwn = and-right (isFor j w i) _ (un .backOwn);
+      backRises = un .backRises .2;
+      batchesRise = acknowledged-rises (v .acked) (v .sent) i v (un .batchesRise);
+      batchesOut = λ x h.
+          let k : (elem x (v .batches) && ltb i x) ≡ true = sym (acknowledged-leaves i v x) ∙ h in
+          let was = un .batchesOut x (and-left (elem x (v .batches)) _ k) in
+          elem-later i x (backIndices rest ++ endsOf line) (and-right (elem x (v .batches)) _ k) was;
+      noBatches = λ h. absurd (true≢false (sym h ∙ here));
+    }
 
 pub keep-ack : {j : List Entry} {c w : ℕ} {p : Side} → Inv j c w p → (a : Ack) (rest : List Ack) → p .back ≡ a ∷ rest →
-    AckTaken (a .term) (a .index) (p .view) → Inv j c w (withLines (p .line) rest (withView (acknowledged (a .index) (p .view)) p))
+    AckTaken j w (a .term) (a .index) (p .view) → Inv j c w (withLines (p .line) rest (withView (acknowledged (a .index) (p .view)) p))
 keep-ack {j} {c} {w} {p} inv a rest e taken =
     let un = rw e at (inv .unacked) in
     record {
       taken = inv .taken;
       flight = inv .flight;
-      unacked = unacked-struck a (taken .here) un;
-      queues = by (p .view .condition) (omega (arith, un .backRises .0)) (inv .queues);
+      unacked = unacked-struck (p .view) a (taken .here) un;
+      queues = by (p .view .condition) (omega (arith, taken .up)) (inv .queues);
       busySent = inv .busySent;
     }
   where
@@ -133,43 +144,56 @@ module _ {j : List Entry} {w sent : ℕ} {s : Sent} {rest : List Sent} where
     lineTerms = is .lineTerms .1;
   }
 
--- an entry that ends its batch leaves the line, and its ack is on the way back
-module _ {away : Bool} {t : Term} {acked last : ℕ} {batches : List ℕ} {s : Sent} {rest : List Sent} {back : List Ack}
-    (un : Unacknowledged away t acked last batches (s ∷ rest) back) (above : last < s .placed .index) where
+-- an entry leaves the line, and where it is acked its ack is on the way back
+module _ {j : List Entry} {w : ℕ} {away : Bool} {t : Term} {acked last sent : ℕ} {batches : List ℕ} {s : Sent} {rest : List Sent}
+    {back : List Ack} (un : Unacknowledged j w away t acked last sent batches (s ∷ rest) back) (up : last < s .placed .index) where
   rises-after : (b : Bool) → Rising acked (backIndices (ackedBack b s back)) (s .placed .index)
   rises-after true =
       rw (map-append (λ a. a .index) back)
       (rising-append acked last (s .placed .index) (backIndices back) (s .placed .index ∷ []) (un .ackedLast) (omega arith) (un .backRises)
-      (above, omega arith, tt))
+      (up, omega arith, tt))
   rises-after false = rising-widen acked last (s .placed .index) (backIndices back) (omega arith) (un .backRises)
 
   terms-after : s .term ≡ t → (b : Bool) → BackTerms t (ackedBack b s back)
   terms-after term true = backTerms-append t back _ (un .backTerms) (term, tt)
   terms-after term false = un .backTerms
 
-  batches-after : (b : Bool) → batches ≡ backIndices back ++ cond b (s .placed .index ∷ endsOf rest) (endsOf rest) →
-      batches ≡ backIndices (ackedBack b s back) ++ endsOf rest
-  batches-after true e =
-      e ∙ rw (map-append (λ a. a .index) back) (sym (append-assoc (backIndices back) (s .placed .index ∷ []) (endsOf rest)))
-  batches-after false e = e
+  own-after : isFor j w (s .placed .index) ≡ true → (b : Bool) → all (isFor j w) (backIndices (ackedBack b s back)) ≡ true
+  unfolding all
+  own-after own true =
+      rw (map-append (λ a. a .index) back, all-append (isFor j w) (backIndices back) (s .placed .index ∷ []), un .backOwn, own)
+  own-after own false = un .backOwn
 
-  unacked-taken : s .term ≡ t → Unacknowledged away t acked (s .placed .index) batches rest (ackedBack (s .ends) s back)
+  -- the last of a batch has its ack on the way back once it is off the line, and an ack more takes none away
+  out-after : (x : ℕ) (acks ends : Bool) → elem x (backIndices back ++ cond ends (s .placed .index ∷ endsOf rest) (endsOf rest)) ≡ true →
+      elem x (backIndices (ackedBack (acks || ends) s back) ++ endsOf rest) ≡ true
+  out-after x true true h = rw (map-append (λ a. a .index) back, append-assoc) h
+  out-after x true false h =
+      rw (map-append (λ a. a .index) back, append-assoc) (elem-between x (backIndices back) (s .placed .index ∷ []) (endsOf rest) h)
+  out-after x false true h = rw (map-append (λ a. a .index) back, append-assoc) h
+  out-after x false false h = h
+
+  unacked-taken : (acks : Bool) → s .term ≡ t → isFor j w (s .placed .index) ≡ true →
+      Unacknowledged j w away t acked (s .placed .index) sent batches rest (ackedBack (acks || s .ends) s back)
   unfolding endsOf
-  unacked-taken term = record {
+  unacked-taken acks term own = record {
     ackedLast = omega (arith, un .ackedLast);
-    backTerms = terms-after term (s .ends);
-    backRises = rises-after (s .ends);
-    batchesIs = λ h. batches-after (s .ends) (un .batchesIs h);
+    backTerms = terms-after term (acks || s .ends);
+    backOwn = own-after own (acks || s .ends);
+    backRises = rises-after (acks || s .ends);
+    batchesRise = un .batchesRise;
+    batchesOut = λ x h. out-after x acks (s .ends) (un .batchesOut x h);
     noBatches = un .noBatches;
   }
 
-module _ {j : List Entry} {c w : ℕ} {p : Side} (inv : Inv j c w p) (few : length j ≤ 65535) (s : Sent) (rest : List Sent) where
+module _ {j : List Entry} {c w : ℕ} {p : Side} (inv : Inv j c w p) (few : length j ≤ 65535) (acks : Bool) (s : Sent)
+    (rest : List Sent) where
   -- the side after the Take
-  take-side : takeFront s rest p ≡ record {
+  take-side : takeFront acks s rest p ≡ record {
     view = p .view;
     record′ = takeEntry (s .placed) (p .record′) .record′;
     line = rest;
-    back = ackedBack (s .ends) s (p .back);
+    back = ackedBack (acks || s .ends) s (p .back);
     taken = p .taken ++ (s .placed ∷ []);
   }
   unfolding takeFront
@@ -180,10 +204,10 @@ module _ {j : List Entry} {c w : ℕ} {p : Side} (inv : Inv j c w p) (few : leng
   last-is = takeEntry-last (s .placed) (p .record′) (count-small (inv .taken) few)
 
   -- last is then the index that was at the front
-  pub take-last : lastOf (takeFront s rest p) ≡ s .placed .index
+  pub take-last : lastOf (takeFront acks s rest p) ≡ s .placed .index
   take-last = ap lastOf take-side ∙ last-is
 
-  pub keep-take : p .line ≡ s ∷ rest → Inv j c w (takeFront s rest p)
+  pub keep-take : p .line ≡ s ∷ rest → Inv j c w (takeFront acks s rest p)
   keep-take e =
       let flight = rw e at (inv .flight) in
       let un = rw e at (inv .unacked) in
@@ -192,7 +216,7 @@ module _ {j : List Entry} {c w : ℕ} {p : Side} (inv : Inv j c w p) (few : leng
       (record {
         taken = taken-more (inv .taken) few (flight .sentIn) f;
         flight = rw last-is (flight-less flight f);
-        unacked = rw last-is (unacked-taken un (f .begins .above) (flight .lineTerms .0));
+        unacked = rw last-is (unacked-taken un (f .begins .above) acks (flight .lineTerms .0) (f .begins .own));
         queues = inv .queues;
         busySent = inv .busySent;
       })

@@ -1,6 +1,6 @@
 -- Send keeps the invariant of its window: what leaves the queues in front is on the line behind, and sent is where the cut is.
 use Prim.Native.Nat.{ℕ, _-_, _≤_, _<_}
-use mathlib.Core.Path.{_≡_, refl, sym, ap, ap₂, subst, subst⁻¹, _∙_}
+use mathlib.Core.Path.{_≡_, refl, sym, ap, ap₂, subst⁻¹, _∙_}
 use mathlib.Core.Logic.{⊎-elim}
 use mathlib.Core.List.{List, [], _∷_, _++_, map, map-append, append-assoc}
 use mathlib.Core.Bool.{false, true≢false}
@@ -11,7 +11,8 @@ use Rattle.journal.specs.declared.Entry.{Entry}
 use Rattle.journal.specs.Entry.{placedAt}
 use Rattle.lists.specs.Cases.{le-or-lt}
 use Rattle.journal.specs.Due.{due, due-split}
-use Rattle.lists.specs.Elem.{lastOr}
+use Rattle.lists.specs.Elem.{lastOr, elem-grown}
+use Rattle.lists.specs.Rising.{rising-append}
 use Rattle.rules.specs.declared.Term.{Term}
 use Rattle.rules.specs.View.{Condition, normal, fetching, completed, suspended}
 use Rattle.rules.specs.Shape.{isEmpty}
@@ -47,19 +48,23 @@ flight-more {j} {w} {last} {sent} {l} {t} {line} {xs} flight has h k = record {
   lineTerms = lineTerms-append t line (onLine j t xs) (flight .lineTerms) (onLine-terms j t xs);
 }
 
-unacked-more : (j : List Entry) {t : Term} {acked last : ℕ} {batches : List ℕ} {line : List Sent} {back : List Ack} (xs : List ℕ) →
-    isEmpty xs ≡ false → Unacknowledged false t acked last batches line back →
-    Unacknowledged false t acked last (batches ++ (lastOr 0 xs ∷ [])) (line ++ onLine j t xs) back
-unacked-more j {t} {line = line} {back} xs some un = record {
-  ackedLast = un .ackedLast;
-  backTerms = un .backTerms;
-  backRises = un .backRises;
-  batchesIs = λ h.
-      ap₂ (λ a b. a ++ b) (un .batchesIs refl) (sym (onLine-ends j t xs some))
-      ∙ append-assoc (backIndices back) (endsOf line) (endsOf (onLine j t xs))
-      ∙ ap (λ l. backIndices back ++ l) (sym (endsOf-append line (onLine j t xs)));
-  noBatches = λ h. absurd (true≢false (sym h));
-}
+unacked-more : {j : List Entry} {w : ℕ} {t : Term} {acked last sent : ℕ} {batches : List ℕ} {line : List Sent} {back : List Ack}
+    (xs : List ℕ) → isEmpty xs ≡ false → last ≤ sent → sent < lastOr 0 xs → Unacknowledged j w false t acked last sent batches line back →
+    Unacknowledged j w false t acked last (lastOr 0 xs) (batches ++ (lastOr 0 xs ∷ [])) (line ++ onLine j t xs) back
+unacked-more {j} {w} {t} {acked} {last} {sent} {batches} {line} {back} xs some low up un =
+    let l : ℕ = lastOr 0 xs in
+    record {
+      ackedLast = un .ackedLast;
+      backTerms = un .backTerms;
+      backOwn = un .backOwn;
+      backRises = un .backRises;
+      batchesRise =
+          rising-append acked sent l batches (l ∷ []) (omega (arith, un .ackedLast)) (omega arith) (un .batchesRise) (up, le-refl l, tt);
+      batchesOut = λ x h.
+          rw (endsOf-append line (onLine j t xs), onLine-ends j t xs some, ← append-assoc (backIndices back) (endsOf line) (l ∷ []))
+          (elem-grown x batches (backIndices back ++ endsOf line) (l ∷ []) (un .batchesOut x) h);
+      noBatches = λ h. absurd (true≢false (sym h));
+    }
 
 -- ------------------------------------------------------------------------
 -- Send
@@ -80,7 +85,7 @@ module _ (j : List Entry) (c w : ℕ) (read : c ≤ length j) where
             (record {
               taken = inv .taken;
               flight = flight-more (inv .flight) (cut .before) (omega (arith, cut .up)) (omega (arith, cut .within));
-              unacked = rw here′ (unacked-more j xs some (rw here at (inv .unacked)));
+              unacked = rw here′ (unacked-more xs some (inv .flight .lastSent) (cut .up) (rw here at (inv .unacked)));
               queues = queues cut;
               busySent = λ h. omega (arith, cut .up);
             });

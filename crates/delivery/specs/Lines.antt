@@ -1,15 +1,15 @@
--- Laws of the lines: what a batch adds to them.
+-- Laws of the lines: what a batch adds to them, and what follows where they are empty.
 use Prim.Native.Nat.{ℕ}
 use mathlib.Core.Path.{_≡_, refl, ap}
 use mathlib.Core.List.{List, [], _∷_, _++_, map}
-use mathlib.Core.Bool.{Bool, true, false, cond, true≢false}
+use mathlib.Core.Bool.{Bool, true, false, cond, true≢false, false≢true}
 use Rattle.journal.specs.declared.Entry.{Entry}
 use Rattle.journal.specs.Entry.{placedAt}
-use Rattle.lists.specs.Elem.{lastOr}
+use Rattle.lists.specs.Elem.{lastOr, elem-none}
 use Rattle.rules.specs.declared.Term.{Term}
 use Rattle.rules.specs.Shape.{isEmpty}
 use Rattle.delivery.specs.World.{Sent, Ack, onLine}
-use Rattle.delivery.specs.Invariant.{lineEntries, endsOf, LineTerms, BackTerms}
+use Rattle.delivery.specs.Invariant.{lineEntries, endsOf, LineTerms, BackTerms, Unacknowledged}
 
 -- ------------------------------------------------------------------------
 -- append
@@ -52,3 +52,12 @@ unfolding onLine endsOf
 onLine-ends j t [] e = absurd (true≢false e)
 onLine-ends j t (x ∷ []) e = refl
 onLine-ends j t (x ∷ y ∷ xs) e = onLine-ends j t (y ∷ xs) refl
+
+-- ------------------------------------------------------------------------
+-- empty lines
+
+-- with nothing on the line and no ack on the way back, no batch is unacknowledged
+pub unacked-none : {j : List Entry} {w : ℕ} {away : Bool} {t : Term} {acked last sent : ℕ} {batches : List ℕ} →
+    Unacknowledged j w away t acked last sent batches [] [] → batches ≡ []
+unfolding endsOf
+unacked-none {batches = batches} un = elem-none batches (λ x h. false≢true (un .batchesOut x h))

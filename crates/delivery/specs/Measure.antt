@@ -97,14 +97,15 @@ module _ {j : List Entry} {c w : ℕ} {p : Side} (inv : Inv j c w p) (read : c �
       let top : lastOr 0 (b .indices) ≤ length j = rw is at (out .inv .flight .sentIn) in
       rw is (omega (arith, out .up, batchOf-untouched limit (p .view) .acked, sent-ahead (b .rest .condition) (batchOf-condition limit (p .view))))
 
-  pub worked-lowers : (limit : ℕ) (p′ : Side) → length j ≤ 65535 → Worked j limit w p p′ → sideWork (length j) c p′ < sideWork (length j) c p
+  pub worked-lowers : {acks : Bool} (limit : ℕ) (p′ : Side) → length j ≤ 65535 → Worked j limit w acks p p′ →
+      sideWork (length j) c p′ < sideWork (length j) c p
   unfolding takeFront
   worked-lowers limit p′ few (caught t i k e) = rw e (omega (arith, caught-work i (k .upto) (wanted j w i (p .view)) (k .was)))
   worked-lowers limit p′ few (sent size out e) = rw e (omega (arith, sent-work limit (keep-send j c w read p inv limit size out)))
   worked-lowers limit p′ few (written t off e) = rw e (omega (arith, ap busyOf (off .was)))
-  worked-lowers limit p′ few (took s rest at-front e) =
+  worked-lowers {acks} limit p′ few (took s rest at-front e) =
       let f : Front j w (lastOf p) (p .view .sent) s rest = front (rw at-front at (inv .flight)) in
-      rw e (omega (arith, take-last inv few s rest, f .begins .above, f .begins .within, inv .flight .sentIn))
+      rw e (omega (arith, take-last inv few acks s rest, f .begins .above, f .begins .within, inv .flight .sentIn))
   worked-lowers limit p′ few (acked a rest at-front taken e) =
       let rises : Rising (p .view .acked) (backIndices (a ∷ rest)) (lastOf p) = rw at-front at (inv .unacked .backRises) in
       rw e (omega (arith, rises .0, rises .1, inv .flight .lastSent, inv .flight .sentIn))

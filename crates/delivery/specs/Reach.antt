@@ -2,7 +2,7 @@
 use Prim.Native.Nat.{ℕ, _%_, _≤_, _<_}
 use mathlib.Core.Path.{_≡_, refl, ap, subst, subst⁻¹, _∙_}
 use mathlib.Core.List.{List, [], _∷_, _++_}
-use mathlib.Core.Bool.{true}
+use mathlib.Core.Bool.{Bool, true}
 use native.Mathlib.Omega.{arith}
 use lib.ListN.{length}
 use lib.Dec.{eqb, leb}
@@ -39,12 +39,12 @@ few-in wd r =
 -- ------------------------------------------------------------------------
 -- one side
 
-pub keep-worked : {j : List Entry} {c limit w : ℕ} {p p′ : Side} → c ≤ length j → length j ≤ 65535 → Inv j c w p →
-    Worked j limit w p p′ → Inv j c w p′
+pub keep-worked : {j : List Entry} {c limit w : ℕ} {acks : Bool} {p p′ : Side} → c ≤ length j → length j ≤ 65535 → Inv j c w p →
+    Worked j limit w acks p p′ → Inv j c w p′
 keep-worked read few inv (caught t i k e) = rw e (keep-catch _ _ _ _ inv t i k)
 keep-worked read few inv (sent size out e) = rw e (keep-send _ _ _ read _ inv _ size out .inv)
 keep-worked read few inv (written t off e) = rw e (keep-written inv)
-keep-worked read few inv (took s rest front e) = rw e (keep-take inv few s rest front)
+keep-worked read few inv (took s rest front e) = rw e (keep-take inv few _ s rest front)
 keep-worked read few inv (acked a rest front taken e) = rw e (keep-ack inv a rest front taken)
 
 -- ------------------------------------------------------------------------
@@ -64,7 +64,7 @@ replaced wd wd′ w p′ r h e s inv =
 -- ------------------------------------------------------------------------
 -- each kind of step
 
-reached-work : (wd wd′ : World) → Reached wd → Work wd wd′ → Reached wd′
+reached-work : {acks : Bool} (wd wd′ : World) → Reached wd → Work acks wd wd′ → Reached wd′
 reached-work wd wd′ r (stays e) = subst⁻¹ Reached e r
 reached-work wd wd′ r (mains m) = record {
   inShape = m .shaped;

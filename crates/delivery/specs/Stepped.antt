@@ -18,7 +18,7 @@ use Rattle.rules.specs.Offers.{Effect, LawfulRule, catchEffect, catchRule-lawfu
 use Rattle.delivery.specs.World.{Side, World, noSide, sideAt, numbersIn, playerIn, withView, withPlayer, withSide, Step, catch, written, late-ack, drop, answered, called, calledThen, step}
 use Rattle.delivery.specs.Statement.{begins}
 use Rattle.delivery.specs.Worlds.{entries-in, window-in, windows-in, withPlayer-same, withPlayer-window, withSide-here, withSide-twice, withSide-player}
-use Rattle.delivery.specs.Effects.{Worked, stays, works, WorksAt, Facts, working, dropping}
+use Rattle.delivery.specs.Effects.{acksEarly, Worked, stays, works, WorksAt, Facts, working, dropping}
 use Rattle.delivery.specs.Effects as E
 
 -- ------------------------------------------------------------------------
@@ -119,7 +119,8 @@ module _ {s : Step} {wd : World} {w : ℕ} {o : Outcome} {x : Effect} {g : Side 
   -- it does a piece of the window's work
   pub call-works : shape (numbersIn wd) (playerIn wd) ≡ true → o .answer ≡ 0 →
       ((t : x .tells (wd .journal) (sideAt w wd .view)) →
-      Worked (wd .journal) (wd .limit) w (sideAt w wd) (g (withView (x .makes (wd .journal) (sideAt w wd .view) t) (sideAt w wd)))) → WorksAt s wd w
+      Worked (wd .journal) (wd .limit) w (acksEarly s) (sideAt w wd) (g (withView (x .makes (wd .journal) (sideAt w wd .view) t) (sideAt w wd)))) →
+      WorksAt s wd w
   call-works shaped e work =
       let d = call-done shaped e in
       record { within = d .within; after = _; work = work (d .turn); world = d .world; shaped = d .shaped }

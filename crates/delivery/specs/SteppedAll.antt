@@ -126,7 +126,7 @@ module _ (wd : World) (shaped : shape (numbersIn wd) (playerIn wd) ≡ true) whe
   step-facts (catch w t i) = facts-catch wd shaped w t i
   step-facts (written w t) = facts-written wd shaped w t
   step-facts (send w out) = facts-send wd shaped w out
-  step-facts (W.take w) = facts-take wd shaped w
+  step-facts (W.take w acks) = facts-take wd shaped w acks
   step-facts (ack w) = facts-ack wd shaped w
   step-facts (late-ack w t i) = facts-late wd shaped w t i
   step-facts (drop w) = facts-drop wd shaped w

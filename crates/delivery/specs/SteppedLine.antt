@@ -3,7 +3,7 @@ use Prim.Native.Nat.{ℕ, _≤_, _<_}
 use mathlib.Core.Path.{_≡_, refl, sym, ap}
 use mathlib.Core.Logic.{⊎-elim}
 use mathlib.Core.List.{List, [], _∷_, _++_}
-use mathlib.Core.Bool.{true}
+use mathlib.Core.Bool.{Bool, true}
 use borrow.Author.Tests.{eq-eqb, ne-eqb, lt-ltb, le-ltb}
 use lib.ListN.{length}
 use Rattle.lists.specs.Cases.{le-or-lt}
@@ -78,7 +78,7 @@ module _ (wd : World) (shaped : shape (numbersIn wd) (playerIn wd) ≡ true) whe
   ack-line w b h front = simp (lt-ltb w (length (wd .sides)) h) (ap (λ b. ackAtLine w b wd) front)
 
   ack-call : (w : ℕ) (a : Ack) (rest : List Ack) → w < length (wd .sides) → sideAt w wd .back ≡ a ∷ rest →
-      CallAt (ack w) wd w (ackRule (numbersIn wd) w (a .term) (a .index) (playerIn wd)) (ackEffect (a .term) (a .index))
+      CallAt (ack w) wd w (ackRule (numbersIn wd) w (a .term) (a .index) (playerIn wd)) (ackEffect w (a .term) (a .index))
       (λ p. withLines (p .line) rest p)
   ack-call w a rest h front =
       record {
@@ -109,30 +109,33 @@ module _ (wd : World) (shaped : shape (numbersIn wd) (playerIn wd) ≡ true) whe
   -- ------------------------------------------------------------------------
   -- Take
 
-  take-line : (w : ℕ) (l : List Sent) → w < length (wd .sides) → sideAt w wd .line ≡ l → step (W.take w) wd ≡ takeAtLine w l wd
+  take-line : (w : ℕ) (acks : Bool) (l : List Sent) → w < length (wd .sides) → sideAt w wd .line ≡ l →
+      step (W.take w acks) wd ≡ takeAtLine w acks l wd
   unfolding step
-  take-line w l h front = simp (lt-ltb w (length (wd .sides)) h) (ap (λ l. takeAtLine w l wd) front)
+  take-line w acks l h front = simp (lt-ltb w (length (wd .sides)) h) (ap (λ l. takeAtLine w acks l wd) front)
 
-  pub take-works : (w : ℕ) (s : Sent) (rest : List Sent) → w < length (wd .sides) → sideAt w wd .line ≡ s ∷ rest → WorksAt (W.take w) wd w
+  pub take-works : (w : ℕ) (acks : Bool) (s : Sent) (rest : List Sent) → w < length (wd .sides) → sideAt w wd .line ≡ s ∷ rest →
+      WorksAt (W.take w acks) wd w
   unfolding takeFront
-  take-works w s rest h front =
-      let done : step (W.take w) wd .world ≡ withSide w (takeFront s rest (sideAt w wd)) wd = ap (λ r. r .world) (take-line w (s ∷ rest) h front) in
+  take-works w acks s rest h front =
+      let done : step (W.take w acks) wd .world ≡ withSide w (takeFront acks s rest (sideAt w wd)) wd
+      = ap (λ r. r .world) (take-line w acks (s ∷ rest) h front) in
       record {
         within = h;
-        after = takeFront s rest (sideAt w wd);
+        after = takeFront acks s rest (sideAt w wd);
         work = E.took s rest front refl;
         world = done;
         shaped = shape-after wd w (playerIn wd) (sideAt w wd .view) _ _ (sym (withWindow-same w wd)) shaped done refl;
       }
 
-  take-front : (w : ℕ) (l : List Sent) → w < length (wd .sides) → sideAt w wd .line ≡ l → Facts (W.take w) wd
-  take-front w [] h front = working refl (stays (ap (λ r. r .world) (take-line w [] h front)))
-  take-front w (s ∷ rest) h front = works-facts wd w (W.take w) refl (take-works w s rest h front)
+  take-front : (w : ℕ) (acks : Bool) (l : List Sent) → w < length (wd .sides) → sideAt w wd .line ≡ l → Facts (W.take w acks) wd
+  take-front w acks [] h front = working refl (stays (ap (λ r. r .world) (take-line w acks [] h front)))
+  take-front w acks (s ∷ rest) h front = works-facts wd w (W.take w acks) refl (take-works w acks s rest h front)
 
-  pub facts-take : (w : ℕ) → Facts (W.take w) wd
+  pub facts-take : (w : ℕ) (acks : Bool) → Facts (W.take w acks) wd
   unfolding step
-  facts-take w =
+  facts-take w acks =
       ⊎-elim
       (λ (h : length (wd .sides) ≤ w). working refl (stays (simp (le-ltb w (length (wd .sides)) h))))
-      (λ (h : w < length (wd .sides)). take-front w (sideAt w wd .line) h refl)
+      (λ (h : w < length (wd .sides)). take-front w acks (sideAt w wd .line) h refl)
       (le-or-lt (length (wd .sides)) w)

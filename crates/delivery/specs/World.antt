@@ -1,4 +1,4 @@
--- Document 01, "Whole runs": a world of journal, player, windows and lines, and what each step makes of it.
+-- Document 01, "Whole runs", with document 02's acks (W1): a world of journal, player, windows and lines, and what each step makes of it.
 use Prim.Native.Nat.{ℕ}
 use mathlib.Core.List.{List, [], _∷_, _++_, map}
 use mathlib.Core.Bool.{Bool, true, false, cond, _||_}
@@ -19,7 +19,7 @@ pub record Sent : Type 0 where
   pub term : Term
   pub ends : Bool
 
--- an ack on its way back: the term of the batch and its last index
+-- an ack on its way back: the index of an entry that was taken, and the term of its batch
 pub record Ack : Type 0 where
   pub term : Term
   pub index : ℕ
@@ -81,27 +81,29 @@ onLine j t [] = []
 onLine j t (i ∷ []) = record { placed = placedAt j i; term = t; ends = true } ∷ []
 onLine j t (i ∷ k ∷ is) = record { placed = placedAt j i; term = t; ends = false } ∷ onLine j t (k ∷ is)
 
--- Take is lent the front entry and removes it; the last of a batch puts an ack on the way back
-unfoldable pub takeFront : Sent → List Sent → Side → Side
-takeFront s rest p =
+-- Take is lent the front entry and removes it. Where it `acks`, and always where the entry is the last of its batch, it puts an ack on the
+-- way back
+unfoldable pub takeFront : Bool → Sent → List Sent → Side → Side
+takeFront acks s rest p =
     let o : Take.Outcome = takeNumbers (fiveOf (s .placed)) (p .record′) in
     record {
       view = p .view;
       record′ = o .record′;
       line = rest;
-      back = cond (s .ends) (p .back ++ (record { term = s .term; index = s .placed .index } ∷ [])) (p .back);
+      back = cond (acks || s .ends) (p .back ++ (record { term = s .term; index = s .placed .index } ∷ [])) (p .back);
       taken = cond (eqb (o .number) 0) (p .taken ++ (s .placed ∷ [])) (p .taken);
     }
 
 -- ------------------------------------------------------------------------
 -- Steps
 
+-- A Take says whether it acks an entry that is not the last of its batch.
 pub data Step : Type 0 where
   main : ℕ → Step
   catch : ℕ → Term → ℕ → Step
   written : ℕ → Term → Step
   send : ℕ → List ℕ → Step
-  take : ℕ → Step
+  take : ℕ → (acks : Bool) → Step
   ack : ℕ → Step
   late-ack : ℕ → Term → ℕ → Step
   drop : ℕ → Step
@@ -140,11 +142,11 @@ launch w before wd =
     let p : Side = sideAt w wd in
     withSide w (withLines (p .line ++ onLine (before .journal) (sideAt w before .view .term) (batchAt w (playerIn before))) (p .back) p) wd
 
-abbrev pub takeAtLine : ℕ → List Sent → World → Stepped
-takeAtLine w [] wd = stays empty wd
-takeAtLine w (s ∷ rest) wd = record {
+abbrev pub takeAtLine : ℕ → Bool → List Sent → World → Stepped
+takeAtLine w acks [] wd = stays empty wd
+takeAtLine w acks (s ∷ rest) wd = record {
   reply = answered (takeNumbers (fiveOf (s .placed)) (sideAt w wd .record′) .number);
-  world = withSide w (takeFront s rest (sideAt w wd)) wd;
+  world = withSide w (takeFront acks s rest (sideAt w wd)) wd;
 }
 
 -- Ack offers the front ack, which stays on the line if refused
@@ -168,7 +170,7 @@ step (main i) wd = called (mainRule (numbersIn wd) i (playerIn wd)) wd
 step (catch w t i) wd = called (catchRule (numbersIn wd) w t i (playerIn wd)) wd
 step (written w t) wd = called (writtenRule (numbersIn wd) w t (playerIn wd)) wd
 step (send w out) wd = calledThen (sendRule (numbersIn wd) w (length out) (playerIn wd)) (launch w wd) wd
-step (take w) wd = cond (ltb w (length (wd .sides))) (takeAtLine w (sideAt w wd .line) wd) (stays (answered 2) wd)
+step (take w acks) wd = cond (ltb w (length (wd .sides))) (takeAtLine w acks (sideAt w wd .line) wd) (stays (answered 2) wd)
 step (ack w) wd = cond (ltb w (length (wd .sides))) (ackAtLine w (sideAt w wd .back) wd) (stays (answered 2) wd)
 step (late-ack w t i) wd =
     cond (leb (length (wd .sides)) w || ltb (t .0) (sideAt w wd .view .term .0)) (called (ackRule (numbersIn wd) w t i (playerIn wd)) wd)

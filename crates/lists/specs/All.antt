@@ -3,12 +3,12 @@ use Prim.Native.Nat.{ℕ, zero, suc, _≤_, _<_}
 use native.Mathlib.Omega.{arith}
 use mathlib.Core.Path.{_≡_, refl}
 use mathlib.Core.List.{List, [], _∷_, _++_}
-use mathlib.Core.Bool.{Bool, true, false, _&&_, _||_, and-assoc, and-eq-true-iff, false≢true}
-use borrow.Author.Tests.{leb-true, eqb-true}
+use mathlib.Core.Bool.{Bool, true, _&&_, and-assoc, and-eq-true-iff}
+use borrow.Author.Tests.{leb-true}
 use lib.ListN.{length, take, drop, getD}
-use lib.Dec.{leb, eqb, leb·zero}
+use lib.Dec.{leb, leb·zero}
 use Rattle.lists.specs.Cases.{and-left, and-right, and-intro}
-use Rattle.lists.specs.Elem.{elem, lastOr}
+use Rattle.lists.specs.Elem.{lastOr}
 
 -- every item passes a test
 unfoldable pub all : {A : Type 0} → (A → Bool) → List A → Bool
@@ -76,17 +76,7 @@ module _ {A : Type 0} where
 pub all-held : (l : ℕ) (xs : List ℕ) → all (between 0 l) xs ≡ all (heldIn l) xs
 all-held l = all-cong (between 0 l) (heldIn l) (λ x. rw leb·zero)
 
--- a test that every item passes, a member passes
-pub all-elem : (p : ℕ → Bool) (i : ℕ) (xs : List ℕ) → all p xs ≡ true → elem i xs ≡ true → p i ≡ true
-unfolding all
-all-elem p i [] a e = absurd (false≢true e)
-all-elem p i (x ∷ xs) a e = go (eqb i x) refl e (all-elem p i xs (and-right (p x) _ a))
-  where
-    go : (b : Bool) → eqb i x ≡ b → (b || elem i xs) ≡ true → (elem i xs ≡ true → p i ≡ true) → p i ≡ true
-    go true q h ih = rw (eqb-true i x q) (and-left (p x) _ a)
-    go false q h ih = ih h
-
--- and so does the last item
+-- a test that every item passes, the last item passes
 pub all-last : (p : ℕ → Bool) (a : ℕ) (xs : List ℕ) → p a ≡ true → all p xs ≡ true → p (lastOr a xs) ≡ true
 unfolding all
 all-last p a [] h e = h

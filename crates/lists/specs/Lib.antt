@@ -1,9 +1,11 @@
 -- What several crates say of lists and tests: ways to go by cases, a test of every item, membership and the last item, rising lists, the
--- items by their place, a list written over another, the first cells of a row, and the refusals of a call in order.
+-- numbers above a given one, the items by their place, a list written over another, the first cells of a row, and the refusals of a call in
+-- order.
 pub mod Cases
 pub mod All
 pub mod Elem
 pub mod Rising
+pub mod Above
 pub mod Set
 pub mod Over
 pub mod Cells

@@ -110,7 +110,7 @@ module _ {h : Host} {wd : World} (is : Shows h wd) where
   call-for (W.catch w t i) made = call-catch h w t i
   call-for (W.written w t) made = call-written h w t
   call-for (W.send w lent) made = call-send h w lent
-  call-for (W.take w) made = call-take h w
+  call-for (W.take w acks) made = call-take h w acks
   call-for (W.ack w) made = call-ack h w
   call-for (W.late-ack w t i) made = call-late h w t i (late-made w t i made)
   call-for (W.drop w) made = call-drop h w

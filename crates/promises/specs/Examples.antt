@@ -2,7 +2,7 @@
 use Prim.Native.Nat.{ℕ}
 use mathlib.Core.Path.{_≡_, refl, ap, _∙_}
 use mathlib.Core.List.{List, [], _∷_, map}
-use mathlib.Core.Bool.{true}
+use mathlib.Core.Bool.{true, false}
 use native.Mathlib.Omega.{arith}
 use lib.ListN.{replicate}
 use Rattle.lists.specs.Cells.{front}
@@ -47,12 +47,14 @@ begun = record { player = freshPlayer 2 2 (replicate 2 0); answer = Done }
 abbrev pub host0 : Host
 host0 = opened (begun .player) journal3 2
 
--- a batch of two taken, its line dropped before the ack; the ack is refused, the window joins, and the ack comes late and is refused again;
--- one more entry is appended, read, sent, taken and acknowledged; nothing is to be fetched; the player starts anew
+-- a batch of two taken, its first entry acknowledged by itself, and the line dropped before the ack of the second; that ack is refused,
+-- the window joins, and the ack comes late and is refused again; one more entry is appended, read, sent, taken and acknowledged; nothing
+-- is to be fetched; the player starts anew
 abbrev pub everyKind : List Step
 everyKind =
-    main 1 ∷ main 2 ∷ send 0 room ∷ take 0 ∷ take 0 ∷ drop 0 ∷ ack 0 ∷ join 0 ∷ late-ack 0 (term 1) 2
-    ∷ append (entry4 1 2 1 400) ∷ main 3 ∷ main 4 ∷ send 0 room ∷ written 0 (term 2) ∷ take 0 ∷ ack 0 ∷ catch 0 (term 2) 4 ∷ start 2 ∷ []
+    main 1 ∷ main 2 ∷ send 0 room ∷ take 0 true ∷ ack 0 ∷ take 0 false ∷ drop 0 ∷ ack 0 ∷ join 0 ∷ late-ack 0 (term 1) 2
+    ∷ append (entry4 1 2 1 400) ∷ main 3 ∷ main 4 ∷ send 0 room ∷ written 0 (term 2) ∷ take 0 false ∷ ack 0
+    ∷ catch 0 (term 2) 4 ∷ start 2 ∷ []
 
 -- what window 0 has then taken
 abbrev pub taken0 : List (List ℕ)
@@ -72,7 +74,7 @@ module _ (before : Player) where
   pub record Computed : Type 0 where
     pub all : allMade world0 everyKind ≡ true
     pub answers : replies world0 everyKind ≡
-        done ∷ done ∷ done ∷ done ∷ done ∷ done ∷ answered 3 ∷ done ∷ answered 5
+        done ∷ done ∷ done ∷ done ∷ done ∷ done ∷ done ∷ answered 3 ∷ done ∷ answered 5
         ∷ done ∷ done ∷ done ∷ done ∷ done ∷ done ∷ done ∷ answered 4 ∷ done ∷ []
     pub taken : endOf (sideAt 0 (run world0 everyKind)) .taken ≡ taken0
 

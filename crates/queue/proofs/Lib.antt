@@ -1,2 +1,3 @@
 -- What the proofs share besides the laws of specs/.
 mod Moved
+mod Kept

@@ -1,17 +1,16 @@
--- Laws of the first n cells, of the lists that the operations make, and of a search.
+-- Laws of the first n cells, and of the lists that the operations make.
 use Prim.Native.Nat.{ℕ, zero, suc, _+_, _-_, _≤_, _<_, zero-le}
 use native.Mathlib.Nat.{le-of-suc-le-suc, not-suc-le-zero, suc-sub-suc, sub-zero, zero-sub}
 use native.Mathlib.Numerals.{add-one}
 use native.Mathlib.Omega.{arith}
 use mathlib.Core.Path.{_≡_, refl, sym, ap}
 use mathlib.Core.List.{List, [], _∷_, _++_}
-use mathlib.Core.Bool.{Bool, true, false}
+use mathlib.Core.Bool.{true, false}
 use lib.ListN.{length, take, drop, getD, set, List·getD-eq-default, drop-of-length-le}
 use lib.Seq.{drop-cons, drop-nil}
-use lib.Dec.{leb, eqb}
-use borrow.Author.Tests.{lt-ltb, le-ltb, le-leb, lt-leb, eqb-true, eqb-false}
-use Rattle.queue.specs.declared.Found.the-variants.{At}
-use Rattle.queue.specs.Items.{itemsOf, batchesOf, freshQueue, freshBatches, pushed, skipped, findFrom}
+use lib.Dec.{leb}
+use borrow.Author.Tests.{lt-ltb, le-ltb, le-leb, lt-leb}
+use Rattle.queue.specs.Items.{itemsOf, batchesOf, freshQueue, freshBatches, pushed, whereFits}
 use Rattle.lists.specs.Cells.{front, front-length, front-push}
 
 -- front
@@ -89,48 +88,21 @@ pushed-front-room size x n cells e h =
 pub pushed-front-full : (size x n : ℕ) (cells : List ℕ) → size ≤ n → front 0 n cells ≡ pushed size x (front 0 n cells)
 pushed-front-full size x n cells h = sym (pushed-full size x (front 0 n cells) (rw front-length h))
 
--- skipped
+-- whereFits
 
-pub skipped-fits : (size k : ℕ) (q : List ℕ) → length q ≤ size → skipped size k q ≡ drop k q
-unfolding skipped
-skipped-fits size k q h = rw (le-leb (length q) size h)
+module _ (size : ℕ) (f : List ℕ → List ℕ) where
+  pub whereFits-fits : (q : List ℕ) → length q ≤ size → whereFits size f q ≡ f q
+  unfolding whereFits
+  whereFits-fits q h = rw (le-leb (length q) size h)
 
-pub skipped-over : (size k : ℕ) (q : List ℕ) → size < length q → skipped size k q ≡ q
-unfolding skipped
-skipped-over size k q h = rw (lt-leb (length q) size h)
+  pub whereFits-over : (q : List ℕ) → size < length q → whereFits size f q ≡ q
+  unfolding whereFits
+  whereFits-over q h = rw (lt-leb (length q) size h)
 
--- the items of a row that has more than it may
-pub skipped-front-over : (size k n : ℕ) (cells : List ℕ) → size < n → front 0 n cells ≡ skipped size k (front 0 n cells)
-skipped-front-over size k n cells h = sym (skipped-over size k (front 0 n cells) (rw front-length h))
+  -- the items of a row that has more than it may
+  pub whereFits-front-over : (n : ℕ) (cells : List ℕ) → size < n → front 0 n cells ≡ whereFits size f (front 0 n cells)
+  whereFits-front-over n cells h = sym (whereFits-over (front 0 n cells) (rw front-length h))
 
--- what is left of the items of a row that has no more than it may
-pub skipped-front-fits : (size k n : ℕ) (cells : List ℕ) → n ≤ size → skipped size k (front 0 n cells) ≡ drop k (front 0 n cells)
-skipped-front-fits size k n cells h = skipped-fits size k (front 0 n cells) (rw front-length h)
-
--- findFrom
-
--- what a search from the place j that gives the place k says of the items: the i-th is x, where j + i is k, and none before it is
-abbrev Hit : ℕ → ℕ → List ℕ → ℕ → Type 0
-Hit x j xs k =
-    (i : ℕ) × (k ≡ j + i) × (i < length xs) × (getD xs i 0 ≡ x) × ((m : ℕ) → m < i → getD xs m 0 ≡ x → ⊥)
-
-findFrom-hit : (x j : ℕ) (xs : List ℕ) (k : ℕ) → findFrom x j xs ≡ At k → Hit x j xs k
-unfolding findFrom
-findFrom-hit x j [] k e = let z : _≡_ {A = ℕ} 0 1 = cc in absurd (omega arith)
-findFrom-hit x j (y ∷ ys) k e = go (findFrom-hit x (suc j) ys k) (eqb y x) refl
-  where
-    later : (i : ℕ) → (y ≡ x → ⊥) → ((m : ℕ) → m < i → getD ys m 0 ≡ x → ⊥) → (m : ℕ) → m < suc i → getD (y ∷ ys) m 0 ≡ x → ⊥
-    later i no-y no-ys zero h = no-y
-    later i no-y no-ys (suc m) h = no-ys m (le-of-suc-le-suc h)
-
-    go : (findFrom x (suc j) ys ≡ At k → Hit x (suc j) ys k) → (b : Bool) → eqb y x ≡ b → Hit x j (y ∷ ys) k
-    go ih true t =
-        let q : At j ≡ At k = rw t at e in
-        let z : j ≡ k = cc in
-        (0, omega arith, omega arith, eqb-true y x t, λ m h. absurd (not-suc-le-zero h))
-    go ih false t =
-        let r : Hit x (suc j) ys k = ih (rw t at e) in
-        (suc (r .0), omega (arith, r .1), omega (arith, r .2), r .3, later (r .0) (eqb-false y x t) (r .4))
-
-pub findFrom-bound : (x k : ℕ) (xs : List ℕ) → findFrom x 0 xs ≡ At k → k < length xs
-findFrom-bound x k xs e = let h = findFrom-hit x 0 xs k e in omega (arith, h .1, h .2)
+  -- what is made of the items of a row that has no more than it may
+  pub whereFits-front-fits : (n : ℕ) (cells : List ℕ) → n ≤ size → whereFits size f (front 0 n cells) ≡ f (front 0 n cells)
+  whereFits-front-fits n cells h = whereFits-fits (front 0 n cells) (rw front-length h)

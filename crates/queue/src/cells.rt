@@ -1,11 +1,10 @@
-// The loops over the first n of a row of cells, which both kinds of queue share.
+// The loops over the first n of a row of cells.
 ghost use mathlib.Core.Path.{_≡_};
 ghost use Prim.Native.Nat.{_≤_};
 ghost use lib.ListN.{length, drop};
 ghost use Rattle.lists.specs.Cells.{front};
-ghost use Rattle.queue.specs.Items.{findFrom};
 ghost use Rattle.lists.specs.All.{all, between};
-use crate::Found;
+ghost use Rattle.lists.specs.Above.{above};
 
 // Moves the first n cells down by k places, and gives how many of them are left.
 pub(crate) fn move_down(cells: &mut [u32], k: usize, n: usize) -> usize
@@ -43,17 +42,20 @@ pub(crate) fn all_between(cells: &[u32], n: usize, low: u32, high: u32) -> bool
     true
 }
 
-// The place of the first of the first n cells that equals x.
-pub(crate) fn first_equal(cells: &[u32], n: usize, x: u32) -> Found
+// Moves those of the first n cells that are above x to the front, in order, and gives how many they are.
+pub(crate) fn keep_above(cells: &mut [u32], n: usize, x: u32) -> usize
     requires { ⌜ n ≤ length (now cells) ⌝ }
-    ensures { λ r. ⌜ r ≡ findFrom x 0 (front 0 n (now (cells .entry))) ⌝ }
+    ensures { λ r. ⌜ front 0 r (now (cells .exit)) ≡ above x (front 0 n (now (cells .entry))) ⌝ }
 {
-    let mut at = 0;
-    while at < n {
-        if cells[at] == x {
-            return Found::At(at);
+    let mut to = 0;
+    let mut from = 0;
+    while from < n {
+        let y = cells[from];
+        if x < y {
+            cells[to] = y;
+            to += 1;
         }
-        at += 1;
+        from += 1;
     }
-    Found::Nothing
+    to
 }

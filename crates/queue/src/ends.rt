@@ -1,13 +1,12 @@
 // The last indices of unacknowledged batches, up to 8.
 use crate::Batches;
-use crate::Found;
 use crate::cells;
 ghost use mathlib.Core.Path.{_≡_};
 ghost use mathlib.Core.Bool.{_&&_};
 ghost use mathlib.Core.List.{[]};
 ghost use lib.Dec.{leb};
 ghost use lib.ListN.{length, getD};
-ghost use Rattle.queue.specs.Items.{batchesOf, freshBatches, pushed, skipped, findIn};
+ghost use Rattle.queue.specs.Items.{batchesOf, freshBatches, pushed, keptAbove};
 ghost use Rattle.lists.specs.All.{all, heldIn};
 
 impl Batches {
@@ -37,19 +36,19 @@ impl Batches {
         b
     }
 
-    // The batches without the first k, or as they were where the length is above 8.
-    pub fn skip(self, k: usize) -> Batches
-        ensures { λ r. ⌜ batchesOf r ≡ skipped 8 k (batchesOf self) ⌝ }
+    // The batches that end above x, in order, or as they were where the length is above 8.
+    pub fn above(self, x: u32) -> Batches
+        ensures { λ r. ⌜ batchesOf r ≡ keptAbove 8 x (batchesOf self) ⌝ }
     {
         let count = self.len;
         if 8 < count {
             return self;
         }
         let mut ends = self.cells;
-        let rest = cells::move_down(&mut ends, k, count);
+        let left = cells::keep_above(&mut ends, count, x);
         Batches {
             cells: ends,
-            len: rest,
+            len: left,
         }
     }
 
@@ -93,17 +92,5 @@ impl Batches {
         }
         let ends = self.cells;
         cells::all_between(&ends, n, 0, l)
-    }
-
-    // The place of the first batch whose last index is x, or nothing where none is or the length is above 8.
-    pub fn find(self, x: u32) -> Found
-        ensures { λ r. ⌜ r ≡ findIn x (batchesOf self) ⌝ }
-    {
-        let n = self.len;
-        if n <= 8 {
-            let ends = self.cells;
-            return cells::first_equal(&ends, n, x);
-        }
-        Found::Nothing
     }
 }

@@ -14,9 +14,3 @@ pub struct Batches {
     pub cells: [u32; 8],
     pub len: usize,
 }
-
-// The place of an item, counted from 0.
-pub enum Found {
-    At(usize),
-    Nothing,
-}

@@ -79,7 +79,8 @@ fn handed(x: u32, n: usize) -> Bench {
 fn letter(q: Queue, b: Batches, number: u64, before: u64, byte: u8) -> Bench {
     match byte {
         b'p' => made(q.push(index_of(number)), b.push(index_of(number))),
-        b's' => made(q.skip(number as usize), b.skip(number as usize)),
+        b's' => made(q.skip(number as usize), b),
+        b'k' => made(q, b.above(index_of(number))),
         b'c' => made(q.clear(), b.clear()),
         b'f' => made(Queue::FRESH, Batches::FRESH),
         b'u' => pushed_to(index_of(number)),

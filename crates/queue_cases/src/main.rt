@@ -2,13 +2,14 @@
 // does a thing to a queue and to batches or shows one of them, with the number that stands before it. `M` stands for the largest number.
 // A line starts with a new queue and new batches. The program writes the label, the colon and what the letters show.
 //
-// | letter | what it does to both | letter | what it shows: small of the queue, large of the batches |
+// | letter | what it does, to both unless it names one | letter | what it shows: small of the queue, large of the batches |
 // |---|---|---|---|
 // | `p` | push of the number | `i`, `I` | the first four indices, the first nine |
-// | `s` | skip of the number | `z`, `Z` | the size |
-// | `c` | clear | `a`, `A` | the item at the number |
-// | `f` | the constant of each | `w`, `W` | whether all lie within the number |
-// | `u` | pushes of 1 up to the number | `F` | the place of the number |
+// | `s` | skip of the number, of the queue | `z`, `Z` | the size |
+// | `k` | those above the number, of the batches | `a`, `A` | the item at the number |
+// | `c` | clear | `w`, `W` | whether all lie within the number |
+// | `f` | the constant of each | | |
+// | `u` | pushes of 1 up to the number | | |
 // | `h` | handed in: the number before this one in every cell, and this one as length | | |
 mod bench;
 mod show;

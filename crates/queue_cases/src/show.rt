@@ -1,6 +1,5 @@
 // What a letter shows, each with a blank before it.
 use queue::Batches;
-use queue::Found;
 use queue::Queue;
 
 // A byte as it stands.
@@ -19,18 +18,6 @@ fn answer(yes: bool) {
         io::write_all(1, b" yes");
     } else {
         io::write_all(1, b" no");
-    }
-}
-
-fn place(f: Found) {
-    match f {
-        Found::At(k) => {
-            io::write_all(1, b" at");
-            value(k as u64);
-        }
-        Found::Nothing => {
-            io::write_all(1, b" nothing");
-        }
     }
 }
 
@@ -87,7 +74,6 @@ pub(crate) fn batches(b: Batches, at: usize, bound: u32, letter: u8) {
         b'Z' => value(b.size() as u64),
         b'A' => value(b.item(at) as u64),
         b'W' => answer(b.within(bound)),
-        b'F' => place(b.find(bound)),
         _ => {}
     }
 }

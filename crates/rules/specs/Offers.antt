@@ -4,7 +4,7 @@
 -- A check in a rule: where it stops the rule, and where the rule goes on.
 pub use Rattle.rules.specs.Checks.{check-yes, check-no, check-passed}
 -- The clauses of the shape as facts, and one that follows.
-pub use Rattle.rules.specs.Shaped.{windowShaped, shaped}
+pub use Rattle.rules.specs.Shaped.{normal-fits, catch-fits, batches-fit, windowShaped, shaped}
 pub use Rattle.rules.specs.Parts.{batches-here}
 -- When a window is there; an operation on a window. `LawfulRule` says of its outcome all that demand 3 needs: a refusal changes nothing; an
 -- answer 0 has the operation's effect on that window and no other; a state in shape stays in shape.
@@ -12,15 +12,15 @@ pub use Rattle.rules.specs.Operate.{windowAt-within, operated-at, operat
 -- Main: what it makes of a window, case by case; each window by its own rule; when it is answered 0; the shape.
 pub use Rattle.rules.specs.Main.{mainRule-refusals, enqueue-suspended, enqueue-room, mainAt-other, mainAt-suspended, mainAt-room, mainAt-normal, mainAt-fetching, mainAt-completed, mainAt-either, mainNext-at, mainRule-cases, mainRule-done, mainRule-refuses, mainRule-count, mainRule-can, main-shaped}
 -- Catch: what it makes of a window; what its answer 0 tells; when it is answered 0.
-pub use Rattle.rules.specs.Catch.{catchRule-refusals, oneIf, fetched-more, fetched-last, Caught, catchEffect, catchRule-lawful, catchRule-can}
+pub use Rattle.rules.specs.Catch.{catchRule-refusals, oneIf, fetched-more, fetched-last, fetched-batches, Caught, catchEffect, catchRule-lawful, catchRule-can}
 -- The batch of a Send: its closed form; what is ready, of which it is the first; what it leaves of the window.
 pub use Rattle.rules.specs.Batch.{isEmpty-some, isEmpty-drop, batchOf-normal, batchOf-fetching, batchOf-more, batchOf-all, batchOf-drained, batchOf-suspended, batchOf-most, batchOf-queued, readyOf, readyOf-here, TakesReady, batchOf-ready, ConditionAfter, same, emptied, batchOf-condition, batchOf-untouched}
 -- Send: the window after a batch; what its answer 0 tells; when it is answered 0.
 pub use Rattle.rules.specs.Send.{sendRule-refusals, launched-is, launched-ready, SentOut, sendAt-refuses, sendAt-done, sendAt-can, sendEffect, sendRule-lawful, sendRule-done, sendRule-can}
 -- Written: what its answer 0 tells; when it is answered 0.
 pub use Rattle.rules.specs.Written.{writtenRule-refusals, WrittenOff, writtenEffect, writtenRule-lawful, writtenRule-can}
--- Ack: the batches that it strikes off; what its answer 0 tells; when it is answered 0.
-pub use Rattle.rules.specs.Ack.{ackRule-refusals, struck-older, struck-front, AckTaken, ackEffect, ackRule-lawful, ackRule-done, ackRule-can}
+-- Ack: the batches that it leaves; what its answer 0 tells; when it is answered 0.
+pub use Rattle.rules.specs.Ack.{ackRule-refusals, acknowledged-leaves, acknowledged-rises, acknowledged-oldest, AckTaken, ackEffect, ackRule-lawful, ackRule-done, ackRule-can}
 -- Drop: what its answer 0 tells.
 pub use Rattle.rules.specs.Drop.{dropRule-refusals, dropEffect, dropRule-lawful}
 -- Join: what its answer 0 tells; when it is answered 0.

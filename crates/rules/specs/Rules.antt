@@ -1,4 +1,5 @@
--- Document 01, "Operations of the player": the shape, then the window, then the window's rule. A promise is an equation with one of these.
+-- Document 01, "Operations of the player", with document 02's Ack: the shape, then the window, then the window's rule. A promise is an
+-- equation with one of these.
 use Prim.Native.Nat.{ℕ, suc, _+_, min}
 use mathlib.Core.List.{List, [], _∷_, _++_, map}
 use mathlib.Core.Bool.{Bool, true, not, cond, _&&_}
@@ -58,7 +59,7 @@ unfoldable pub writtenRule : List ℕ → ℕ → Term → PlayerView → Outcom
 writtenRule ns w t p = operate ns w (λ v. writtenAt t v) p
 
 unfoldable pub ackRule : List ℕ → ℕ → Term → ℕ → PlayerView → Outcome
-ackRule ns w t i p = operate ns w (λ v. ackAt t i v) p
+ackRule ns w t i p = operate ns w (λ v. ackAt (entriesOf ns) w t i v) p
 
 unfoldable pub dropRule : List ℕ → ℕ → PlayerView → Outcome
 dropRule ns w p = operate ns w (λ v. dropAt v) p

@@ -32,12 +32,21 @@ pub record WindowShaped (l current : ℕ) (v : WindowView) : Type 0 where
   pub catchUp : catchUpFits (v .condition) (v .catchQueue) ≡ true
   pub away : suspendedFits v (v .condition) ≡ true
 
+-- the lengths that fit
+pub normal-fits : (v : WindowView) → lengthsFit v ≡ true → length (v .normalQueue) ≤ 128
+normal-fits v h = leb-true _ _ (and-left (leb (length (v .normalQueue)) 128) _ h)
+
+pub catch-fits : (v : WindowView) → lengthsFit v ≡ true → length (v .catchQueue) ≤ 128
+catch-fits v h = leb-true _ _ (and-left (leb (length (v .catchQueue)) 128) _ (and-right (leb (length (v .normalQueue)) 128) _ h))
+
+pub batches-fit : (v : WindowView) → lengthsFit v ≡ true → length (v .batches) ≤ 8
+batches-fit v h = leb-true _ _ (and-right (leb (length (v .catchQueue)) 128) _ (and-right (leb (length (v .normalQueue)) 128) _ h))
+
 pub windowShaped : (l current : ℕ) (v : WindowView) → windowShape l current v ≡ true → WindowShaped l current v
 unfolding windowShape
 windowShaped l current v e =
     let a = and-left (lengthsFit v) _ e in
     let e₁ = and-right (lengthsFit v) _ e in
-    let a₁ = and-right (leb (length (v .normalQueue)) 128) _ a in
     let b = and-left (queuedFit l v) _ e₁ in
     let e₂ = and-right (queuedFit l v) _ e₁ in
     let c = and-left (heldFit l v) _ e₂ in
@@ -47,9 +56,9 @@ windowShaped l current v e =
     let e₄ = and-right (nextFits (v .condition)) _ e₃ in
     let e₅ = and-right (endFits current (v .condition)) _ e₄ in
     record {
-      normalFits = leb-true _ _ (and-left (leb (length (v .normalQueue)) 128) _ a);
-      catchFits = leb-true _ _ (and-left (leb (length (v .catchQueue)) 128) _ a₁);
-      batchesFit = leb-true _ _ (and-right (leb (length (v .catchQueue)) 128) _ a₁);
+      normalFits = normal-fits v a;
+      catchFits = catch-fits v a;
+      batchesFit = batches-fit v a;
       normalIn = and-left (all (queuedIn l) (v .normalQueue)) _ b;
       catchIn = and-right (all (queuedIn l) (v .normalQueue)) _ b;
       ackedIn = leb-true _ _ (and-left (leb (v .acked) l) _ c);

@@ -1,28 +1,33 @@
 -- Room on the lines: in every world that a script reaches from an opening with the batch limit 2, a line has at most two entries for each
--- of its batches, and the batches on it and the acks on the way back are at most 8 together.
-use Prim.Native.Nat.{ℕ, _+_, _*_, _≤_, _<_}
+-- of its batches, and the batches on it and the acks on the way back are at most 8 together: a script's windows ack the last of a batch
+-- alone, so the unacknowledged batches are those acks and those batches.
+use Prim.Native.Nat.{ℕ, suc, _+_, _*_, _≤_, _<_}
 use mathlib.Core.Path.{_≡_, refl, sym, ap, subst, subst⁻¹, _∙_}
-use mathlib.Core.List.{List, [], _∷_, _++_}
-use mathlib.Core.Bool.{Bool, true, false, cond, true≢false, false≢true}
+use mathlib.Core.List.{List, [], _∷_, _++_, map-append, append-assoc}
+use mathlib.Core.Bool.{Bool, true, false, not, cond, true≢false, false≢true}
 use native.Mathlib.Omega.{arith}
+use borrow.Author.Tests.{not-true}
 use lib.ListN.{length, replicate, length-append, length-map, List·getD-map}
 use lib.Dec.{eqb, ltb}
 use Rattle.journal.specs.declared.Entry.{Entry}
 use Rattle.lists.specs.Set.{getD-set-each}
+use Rattle.lists.specs.Elem.{lastOr}
 use Rattle.journal.specs.Entry.{numbersOf, entriesOf}
 use Rattle.rules.specs.declared.Term.{Term}
 use Rattle.rules.specs.View.{WindowView, PlayerView, noWindow}
-use Rattle.rules.specs.Window.{batchOf, sendAt, ackAt, joinAt}
+use Rattle.rules.specs.Window.{isSuspended, wanted, mainAt, batchOf, acknowledged, sendAt, joinAt}
 use Rattle.rules.specs.Rules.{Outcome, catchRule, writtenRule, ackRule, dropRule, joinRule, sendRule}
-use Rattle.rules.specs.Offers.{operate-limit, mainRule-cases, startRule-done, batchOf-most}
-use Rattle.delivery.specs.World.{Sent, Ack, Side, World, noSide, sideAt, numbersIn, playerIn, withLines, withPlayer, withSide, onLine}
+use Rattle.rules.specs.Offers.{operate-limit, mainAt-either, mainRule-cases, startRule-done, fetched-batches, batchOf-most, batchOf-untouched, SentOut, launched-is}
+use Rattle.rules.specs.Offers.{acknowledged-oldest}
+use Rattle.delivery.specs.World.{Sent, Ack, Side, World, noSide, sideAt, numbersIn, playerIn, withView, withLines, withPlayer, withSide, onLine}
 use Rattle.delivery.specs.World.{takeFront, answered, calledThen, launch, takeAtLine, ackAtLine, cleared, newSide, opened}
 use Rattle.delivery.specs.World as W
 use Rattle.delivery.specs.Statement.{firstStart}
 use Rattle.delivery.specs.Invariant.{backIndices, endsOf, Inv, Reached}
-use Rattle.delivery.specs.Lines.{endsOf-append, onLine-ends}
+use Rattle.delivery.specs.Lines.{endsOf-append, onLine-ends, unacked-none}
+use Rattle.delivery.specs.KeepSend.{launchedSide}
 use Rattle.delivery.specs.Worlds.{withSide-count}
-use Rattle.delivery.specs.Effects.{Worked, caught, sent, written, took, acked, stays, mains, works, Facts, working, dropping, joining}
+use Rattle.delivery.specs.Effects.{acksEarly, Worked, caught, sent, written, took, acked, stays, mains, works, Facts, working, dropping, joining}
 use Rattle.delivery.specs.Effects.{starting, appending}
 use Rattle.delivery.specs.SteppedAll.{step-facts}
 use Rattle.delivery.specs.Reach.{reached-step}
@@ -66,9 +71,10 @@ pairs-length _ (two {l = l} e f p) = rw (e, f) (omega (arith, pairs-length l p))
 -- ------------------------------------------------------------------------
 -- Roomy
 
--- a window's lines
+-- a window's lines: the acks on the way back and the batches on the line are the unacknowledged batches, unless it is Suspended
 pub record RoomySide (p : Side) : Type 0 where
   pub pairs : Pairs (p .line)
+  pub unacked : isSuspended (p .view .condition) ≡ false → p .view .batches ≡ backIndices (p .back) ++ endsOf (p .line)
   pub batches : length (endsOf (p .line)) + length (p .back) ≤ 8
 
 pub record Roomy (wd : World) : Type 0 where
@@ -87,51 +93,100 @@ roomy-line p r =
 -- the work of one window
 
 -- one entry off the line, and an ack more where it was the last of its batch
-took-roomy : (s : Sent) (rest : List Sent) (p : Side) → p .line ≡ s ∷ rest → RoomySide p → RoomySide (takeFront s rest p)
+took-roomy : (s : Sent) (rest : List Sent) (p : Side) → p .line ≡ s ∷ rest → RoomySide p → RoomySide (takeFront false s rest p)
 unfolding takeFront endsOf
 took-roomy s rest p e r = record {
   pairs = pairs-rest s rest (subst Pairs e (r .pairs));
+  unacked = λ here. out (s .ends) (subst (λ l. p .view .batches ≡ backIndices (p .back) ++ endsOf l) e (r .unacked here));
   batches = by (s .ends) (subst (λ l. length (endsOf l) + length (p .back) ≤ 8) e (r .batches));
 }
   where
+    out : (b : Bool) → p .view .batches ≡ backIndices (p .back) ++ cond b (s .placed .index ∷ endsOf rest) (endsOf rest) →
+        p .view .batches
+        ≡ backIndices (cond b (p .back ++ (record { term = s .term; index = s .placed .index } ∷ [])) (p .back)) ++ endsOf rest
+    out true h = h ∙ rw (map-append (λ a. a .index) (p .back), append-assoc)
+    out false h = h
+
     by : (b : Bool) → length (cond b (s .placed .index ∷ endsOf rest) (endsOf rest)) + length (p .back) ≤ 8 →
         length (endsOf rest) + length (cond b (p .back ++ (record { term = s .term; index = s .placed .index } ∷ [])) (p .back)) ≤ 8
     by true h = simp length-append (omega arith)
     by false h = h
 
-worked-roomy : (j : List Entry) (c limit w : ℕ) (p p′ : Side) → limit ≤ 2 → Inv j c w p → RoomySide p → Worked j limit w p p′ → RoomySide p′
-worked-roomy j c limit w p p′ few inv r (caught t i d e) = rw e (record { pairs = r .pairs; batches = r .batches })
-worked-roomy j c limit w p p′ few inv r (written t d e) = rw e (record { pairs = r .pairs; batches = r .batches })
-worked-roomy j c limit w p p′ few inv r (took s rest front e) = rw e (took-roomy s rest p front r)
-worked-roomy j c limit w p p′ few inv r (acked a rest front d e) =
-    let b = subst (λ x. length (endsOf (p .line)) + length x ≤ 8) front (r .batches) in
-    rw e (record { pairs = r .pairs; batches = omega arith })
-worked-roomy j c limit w p p′ few inv r (sent size d e) =
+-- the front ack is the oldest batch
+acked-roomy : {j : List Entry} {c w : ℕ} (a : Ack) (rest : List Ack) (p : Side) → p .back ≡ a ∷ rest → Inv j c w p →
+    isSuspended (p .view .condition) ≡ false → RoomySide p →
+    RoomySide (withLines (p .line) rest (withView (acknowledged (a .index) (p .view)) p))
+acked-roomy a rest p front inv here r =
+    let left : List ℕ = backIndices rest ++ endsOf (p .line) in
+    let is : p .view .batches ≡ a .index ∷ left = rw front at (r .unacked here) in
+    let few = subst (λ x. length (endsOf (p .line)) + length x ≤ 8) front (r .batches) in
+    record {
+      pairs = r .pairs;
+      unacked = λ h. acknowledged-oldest (p .view .acked) (p .view .sent) (a .index) (p .view) left is (inv .unacked .batchesRise);
+      batches = omega arith;
+    }
+
+-- one batch more, of at most two entries
+sent-roomy : (j : List Entry) (limit size : ℕ) (p : Side) → limit ≤ 2 → SentOut limit size (p .view) → RoomySide p →
+    RoomySide (launchedSide j (batchOf limit (p .view)) p)
+sent-roomy j limit size p few out r =
     let is : List ℕ = batchOf limit (p .view) .indices in
+    let new : List Sent = onLine j (p .view .term) is in
+    let was : p .view .batches ≡ backIndices (p .back) ++ endsOf (p .line) = r .unacked (out .here) in
     let held : length (p .view .batches) ≡ length (p .back) + length (endsOf (p .line))
-    = ap length (inv .unacked .batchesIs (d .here)) ∙ length-append (backIndices (p .back)) (endsOf (p .line))
+    = ap length was
+    ∙ length-append (backIndices (p .back)) (endsOf (p .line))
     ∙ ap (λ n. n + length (endsOf (p .line))) (length-map (p .back) (λ a. a .index)) in
-    let ends : length (endsOf (p .line ++ onLine j (p .view .term) is)) ≡ length (endsOf (p .line)) + 1
-    = ap length (endsOf-append (p .line) (onLine j (p .view .term) is))
-    ∙ length-append (endsOf (p .line)) (endsOf (onLine j (p .view .term) is))
-    ∙ ap (λ l. length (endsOf (p .line)) + length l) (onLine-ends j (p .view .term) is (d .some)) in
+    let more : endsOf (p .line ++ new) ≡ endsOf (p .line) ++ (lastOr 0 is ∷ [])
+    = endsOf-append (p .line) new ∙ ap (λ l. endsOf (p .line) ++ l) (onLine-ends j (p .view .term) is (out .some)) in
+    let ends : length (endsOf (p .line ++ new)) ≡ length (endsOf (p .line)) + 1
+    = ap length more ∙ length-append (endsOf (p .line)) (lastOr 0 is ∷ []) in
+    record {
+      pairs = pairs-append (p .line) new (r .pairs) (pairs-batch j (p .view .term) is (omega (arith, batchOf-most limit (p .view))));
+      unacked = λ h.
+          ap (λ x. x .batches) (launched-is is (batchOf limit (p .view) .rest))
+          ∙ ap (λ l. l ++ (lastOr 0 is ∷ [])) (batchOf-untouched limit (p .view) .batches ∙ was)
+          ∙ append-assoc (backIndices (p .back)) (endsOf (p .line)) (lastOr 0 is ∷ [])
+          ∙ ap (λ l. backIndices (p .back) ++ l) (sym more);
+      batches = omega (arith, held, ends, out .few);
+    }
+
+-- a script's Take acks the last of a batch alone
+worked-roomy : (j : List Entry) (c limit w : ℕ) (p p′ : Side) → limit ≤ 2 → Inv j c w p → RoomySide p → Worked j limit w false p p′ →
+    RoomySide p′
+worked-roomy j c limit w p p′ few inv r (caught t i d e) =
     rw e
     (record {
-      pairs = pairs-append (p .line) (onLine j (p .view .term) is) (r .pairs)
-          (pairs-batch j (p .view .term) is (omega (arith, batchOf-most limit (p .view))));
-      batches = omega (arith, held, ends, d .few);
+      pairs = r .pairs;
+      unacked = λ h. fetched-batches (wanted j w i (p .view)) i (d .upto) (p .view) ∙ r .unacked (ap isSuspended (d .was));
+      batches = r .batches;
     })
+worked-roomy j c limit w p p′ few inv r (written t d e) = rw e (record { pairs = r .pairs; unacked = r .unacked; batches = r .batches })
+worked-roomy j c limit w p p′ few inv r (took s rest front e) = rw e (took-roomy s rest p front r)
+worked-roomy j c limit w p p′ few inv r (acked a rest front d e) = rw e (acked-roomy a rest p front inv (d .here) r)
+worked-roomy j c limit w p p′ few inv r (sent size d e) = rw e (sent-roomy j limit size p few d r)
+
+-- Main changes no line and no batch
+main-roomy : (j : List Entry) (w i : ℕ) (p : Side) → RoomySide p → RoomySide (withView (mainAt j w i (p .view)) p)
+main-roomy j w i p r = record {
+  pairs = r .pairs;
+  unacked =
+      mainAt-either j w i (p .view) (λ v. isSuspended (v .condition) ≡ false → v .batches ≡ backIndices (p .back) ++ endsOf (p .line))
+      (r .unacked) (λ here h. r .unacked here) (λ e h. r .unacked (ap isSuspended e)) (λ n end e h. r .unacked (ap isSuspended e))
+      (λ end e h. r .unacked (ap isSuspended e));
+  batches = r .batches;
+}
 
 -- ------------------------------------------------------------------------
 -- a step of a script
 
--- the steps that a script can make: no late ack, no Start, no append
+-- the steps that a script can make: no ack but of the last of a batch, no late ack, no Start, no append
 abbrev pub scripted : W.Step → Bool
 scripted (W.main i) = true
 scripted (W.catch w t i) = true
 scripted (W.written w t) = true
 scripted (W.send w out) = true
-scripted (W.take w) = true
+scripted (W.take w acks) = not acks
 scripted (W.ack w) = true
 scripted (W.late-ack w t i) = false
 scripted (W.drop w) = true
@@ -148,6 +203,19 @@ stepIn-scripted wd (At AckVerb w) = refl
 stepIn-scripted wd (At Drop w) = refl
 stepIn-scripted wd (At Join w) = refl
 stepIn-scripted wd (At Take w) = refl
+
+scripted-acks : (s : W.Step) → scripted s ≡ true → acksEarly s ≡ false
+scripted-acks (W.main i) e = refl
+scripted-acks (W.catch w t i) e = refl
+scripted-acks (W.written w t) e = refl
+scripted-acks (W.send w out) e = refl
+scripted-acks (W.take w acks) e = not-true acks e
+scripted-acks (W.ack w) e = refl
+scripted-acks (W.late-ack w t i) e = refl
+scripted-acks (W.drop w) e = refl
+scripted-acks (W.join w) e = refl
+scripted-acks (W.start b) e = refl
+scripted-acks (W.append x) e = refl
 
 -- a side replaced
 placed-roomy : (wd : World) (v : ℕ) (p : Side) → v < length (wd .sides) → ((w : ℕ) → w < length (wd .sides) → RoomySide (sideAt w wd)) →
@@ -170,15 +238,16 @@ module _ (wd : World) (s : W.Step) (is : scripted s ≡ true) (r : Roomy wd) whe
   roomy-facts (working quiet (stays e)) = subst⁻¹ After e (r .each)
   roomy-facts (working quiet (mains m)) =
       λ w h.
-      let q = r .each w (omega (arith, m .count)) in
-      subst⁻¹ RoomySide (m .each w (omega (arith, m .count))) (record { pairs = q .pairs; batches = q .batches })
+      subst⁻¹ RoomySide (m .each w (omega (arith, m .count)))
+      (main-roomy (wd .journal) w (suc (wd .current)) (sideAt w wd) (r .each w (omega (arith, m .count))))
   roomy-facts (working quiet (works v l p work e shaped)) =
       after-side v p _ l e (worked-roomy (wd .journal) (wd .current) (wd .limit) v (sideAt v wd) p (r .limit) (r .reached .each v l)
-      (r .each v l) work)
+      (r .each v l) (subst (λ b. Worked (wd .journal) (wd .limit) v b (sideAt v wd) p) (scripted-acks s is) work))
   roomy-facts (dropping v same done l e shaped) =
       let q = r .each v l in
-      after-side v _ _ l e (record { pairs = q .pairs; batches = q .batches })
-  roomy-facts (joining v same done l away e shaped) = after-side v _ _ l e (record { pairs = none; batches = omega arith })
+      after-side v _ _ l e (record { pairs = q .pairs; unacked = λ h. absurd (true≢false h); batches = q .batches })
+  roomy-facts (joining v same done l away e shaped) =
+      after-side v _ _ l e (record { pairs = none; unacked = λ h. r .reached .each v l .unacked .noBatches away; batches = omega arith })
   roomy-facts (starting b same done k) = absurd (true≢false (sym is ∙ ap scripted same))
   roomy-facts (appending x same done few e) = absurd (true≢false (sym is ∙ ap scripted same))
 
@@ -194,11 +263,11 @@ calledThen-limit o f wd same = by (eqb (o .answer) 0)
     by true = same (withPlayer (o .next) wd)
     by false = refl
 
-take-limit : (w : ℕ) (l : List Sent) (wd : World) (b : Bool) →
-    cond b (takeAtLine w l wd) (W.stays (answered 2) wd) .world .limit ≡ wd .limit
-take-limit w l wd false = refl
-take-limit w [] wd true = refl
-take-limit w (s ∷ l) wd true = refl
+take-limit : (w : ℕ) (acks : Bool) (l : List Sent) (wd : World) (b : Bool) →
+    cond b (takeAtLine w acks l wd) (W.stays (answered 2) wd) .world .limit ≡ wd .limit
+take-limit w acks l wd false = refl
+take-limit w acks [] wd true = refl
+take-limit w acks (s ∷ l) wd true = refl
 
 ack-limit : (w : ℕ) (l : List Ack) (wd : World) (b : Bool) → cond b (ackAtLine w l wd) (W.stays (answered 2) wd) .world .limit ≡ wd .limit
 unfolding ackRule
@@ -207,7 +276,7 @@ ack-limit w [] wd true = refl
 ack-limit w (a ∷ l) wd true =
     calledThen-limit (ackRule (numbersIn wd) w (a .term) (a .index) (playerIn wd))
     (λ x. withSide w (withLines (sideAt w x .line) l (sideAt w x)) x) wd (λ x. refl)
-    ∙ operate-limit (numbersIn wd) w (λ v. ackAt (a .term) (a .index) v) (playerIn wd)
+    ∙ operate-limit (numbersIn wd) w _ (playerIn wd)
 
 step-limit : (wd : World) (s : W.Step) → scripted s ≡ true → W.step s wd .world .limit ≡ wd .limit
 unfolding W.step withPlayer catchRule writtenRule dropRule joinRule sendRule
@@ -218,7 +287,7 @@ step-limit wd (W.written w t) e = operate-limit (numbersIn wd) w _ (playerIn wd)
 step-limit wd (W.send w out) e =
     calledThen-limit (sendRule (numbersIn wd) w (length out) (playerIn wd)) (launch w wd) wd (λ x. refl)
     ∙ operate-limit (numbersIn wd) w (λ v. sendAt (wd .limit) (length out) v) (playerIn wd)
-step-limit wd (W.take w) e = take-limit w (sideAt w wd .line) wd (ltb w (length (wd .sides)))
+step-limit wd (W.take w acks) e = take-limit w acks (sideAt w wd .line) wd (ltb w (length (wd .sides)))
 step-limit wd (W.ack w) e = ack-limit w (sideAt w wd .back) wd (ltb w (length (wd .sides)))
 step-limit wd (W.late-ack w t i) e = absurd (false≢true e)
 step-limit wd (W.drop w) e = operate-limit (numbersIn wd) w _ (playerIn wd)
@@ -245,9 +314,9 @@ unfolding stepsIn W.run
 roomy-run wd [] r = r
 roomy-run wd (s ∷ ss) r = roomy-run (W.step (stepIn wd s) wd .world) ss (roomy-step wd s r)
 
-roomy-new : (v : WindowView) → RoomySide (newSide v)
+roomy-new : {j : List Entry} {c w : ℕ} (v : WindowView) → Inv j c w (newSide v) → RoomySide (newSide v)
 unfolding endsOf
-roomy-new v = record { pairs = none; batches = omega arith }
+roomy-new v inv = record { pairs = none; unacked = λ h. unacked-none (inv .unacked); batches = omega arith }
 
 -- the opening: a reachable world with the batch limit 2 and empty lines
 pub roomy-opened : (before : PlayerView) (j : List Entry) (count : ℕ) → firstStart before j count 2 .answer ≡ 0 →
@@ -259,7 +328,9 @@ roomy-opened before j count done = record {
       let d : firstStart before j count 2 .next .limit ≡ 2
       = ap (λ q. q .limit) (startRule-done (numbersOf j) count 2 (replicate count 0) before done .next) in
       rw d (omega arith);
-  each = λ w h. subst⁻¹ RoomySide (List·getD-map newSide (firstStart before j count 2 .next .windows) w noWindow) (roomy-new _);
+  each = λ w h.
+      let is = List·getD-map newSide (firstStart before j count 2 .next .windows) w noWindow in
+      subst⁻¹ RoomySide is (roomy-new _ (subst (Inv j _ w) is (opened-reached before j count 2 done .each w h)));
 }
 
 -- in every world that a script reaches from there, each line has room

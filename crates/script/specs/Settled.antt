@@ -94,7 +94,7 @@ module _ (j : List Entry) (s : Stage) (h : Staged s) where
   unfolding W.step
   take-nothing w none =
       nothing-steps (At Take w) w
-      (ap (λ l. cond (ltb w (length (wd .sides))) (takeAtLine w l wd) (W.stays (answered 2) wd))
+      (ap (λ l. cond (ltb w (length (wd .sides))) (takeAtLine w false l wd) (W.stays (answered 2) wd))
       (line-here w ∙ ap (map worldSent) (sentIn-none (lineIn w s .entries) none)))
 
   pub ack-nothing : (w : ℕ) → lineIn w s .acks .len ≡ 0 →

@@ -105,12 +105,12 @@ alike-then rule f g wd same =
 -- ------------------------------------------------------------------------
 -- the steps of a script
 
-take-alike : (w : ℕ) (wd : World) (l : List Sent) → Alike (takeAtLine w l (forgotten wd)) (takeAtLine w l wd)
+take-alike : (w : ℕ) (acks : Bool) (wd : World) (l : List Sent) → Alike (takeAtLine w acks l (forgotten wd)) (takeAtLine w acks l wd)
 unfolding takeFront
-take-alike w wd [] = alike-stays W.empty wd
-take-alike w wd (s ∷ l) = record {
+take-alike w acks wd [] = alike-stays W.empty wd
+take-alike w acks wd (s ∷ l) = record {
   reply = ap (λ p. answered (takeNumbers (fiveOf (s .placed)) (p .record′) .number)) (forgotten-at w wd);
-  world = side-alike w (takeFront s l) (takeFront s l) wd refl;
+  world = side-alike w (takeFront acks s l) (takeFront acks s l) wd refl;
 }
 
 ack-alike : (w : ℕ) (wd : World) (l : List Ack) → Alike (ackAtLine w l (forgotten wd)) (ackAtLine w l wd)
@@ -166,8 +166,8 @@ step-alike wd (At Join w) =
     (λ y. withSide w (cleared (sideAt w y)) y) wd (λ x. side-alike w cleared cleared x refl))
 step-alike wd (At Take w) =
     line-alike (answered 2) wd w _ _
-    (subst⁻¹ (λ x. Alike (takeAtLine w (x .line) (forgotten wd)) (takeAtLine w (sideAt w wd .line) wd)) (forgotten-at w wd)
-    (take-alike w wd (sideAt w wd .line)))
+    (subst⁻¹ (λ x. Alike (takeAtLine w false (x .line) (forgotten wd)) (takeAtLine w false (sideAt w wd .line) wd)) (forgotten-at w wd)
+    (take-alike w false wd (sideAt w wd .line)))
 
 -- ------------------------------------------------------------------------
 -- a stage that shows a world

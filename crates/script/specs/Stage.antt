@@ -1,7 +1,7 @@
 -- Document 01, "One run, whole": the runner's stage, seen as a world of `delivery`, and its steps as that world's steps.
 use Prim.Native.Nat.{ℕ, _+_}
 use mathlib.Core.List.{List, [], _∷_, map}
-use mathlib.Core.Bool.{Bool, cond, _&&_}
+use mathlib.Core.Bool.{Bool, false, cond, _&&_}
 use lib.ListN.{getD, replicate}
 use lib.Dec.{leb, ltb}
 use Rattle.journal.specs.declared.Entry.{Entry}
@@ -56,7 +56,7 @@ forgotten wd = record { journal = wd .journal; limit = wd .limit; current = wd .
 
 -- ------------------------------------------------------------------------
 -- A script's step as a step of the world: `main` and `catch` offer the index due, terms are current, the output lent has room for a batch
--- of two
+-- of two, and `take` acks the last of a batch alone
 
 -- the index due in a window that is Fetching; in any other the answer does not depend on it
 abbrev pub dueIn : Condition → ℕ
@@ -73,7 +73,7 @@ stepIn wd (At Written w) = W.written w (sideAt w wd .view .term)
 stepIn wd (At Ack w) = W.ack w
 stepIn wd (At Drop w) = W.drop w
 stepIn wd (At Join w) = W.join w
-stepIn wd (At Take w) = W.take w
+stepIn wd (At Take w) = W.take w false
 
 -- the steps of the world that a script's steps are
 unfoldable pub stepsIn : World → List Step → List W.Step

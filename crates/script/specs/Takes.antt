@@ -47,7 +47,7 @@ worldAck-taken x acks false = refl
 sideOf-taken : (v : WindowView) (x : Slot) (own : Record) (l : Line) (sent : Sent) (rest : List Sent) →
     sentIn (x .line .entries) ≡ sent ∷ rest →
     own ≡ takeNumbers (fiveOf (placedOf (sent .numbers))) (x .record) .record′ → TakenOff (x .line) sent l →
-    sideOf v own l ≡ forget (takeFront (worldSent sent) (map worldSent rest) (sideOf v (x .record) (x .line)))
+    sideOf v own l ≡ forget (takeFront false (worldSent sent) (map worldSent rest) (sideOf v (x .record) (x .line)))
 unfolding takeFront
 sideOf-taken v x own l sent rest front o off =
     ap₂ (λ a b. record { view = v; record′ = own; line = a; back = b; taken = [] })
@@ -73,10 +73,10 @@ take-steps j s h w p r same some k =
     let front : sentIn (lineIn w s .entries) ≡ sent ∷ rest = sentIn-first (lineIn w s .entries) sent some refl in
     let within : w < s .player .count = lineIn-within s w (λ l. l .entries .len) refl some in
     let there : w < length (wd .sides) = omega (arith, worldOf-count j s) in
-    let after : W.Side → W.Side = takeFront (worldSent sent) (map worldSent rest) in
+    let after : W.Side → W.Side = takeFront false (worldSent sent) (map worldSent rest) in
     let own = worldOf-side j s h w in
-    steps-as j s (At Take w) (takeAtLine w (map worldSent (sent ∷ rest)) wd) (storedBy s w p r)
-    (simp (lt-ltb w (length (wd .sides)) there) (ap (λ b. takeAtLine w b wd) (line-here j s h w ∙ ap (map worldSent) front)))
+    steps-as j s (At Take w) (takeAtLine w false (map worldSent (sent ∷ rest)) wd) (storedBy s w p r)
+    (simp (lt-ltb w (length (wd .sides)) there) (ap (λ b. takeAtLine w false b wd) (line-here j s h w ∙ ap (map worldSent) front)))
     (ap replyOf (k .reply) ∙ ap (λ p. answered (takeNumbers (fiveOf (placedOf (sent .numbers))) (p .record′) .number)) (sym own))
     (worldOf-placed j s h w p v (r .record) (r .line) (same ∙ window-same w (playerOf (s .player)))
     ∙ ap (λ p. withSide w p wd)

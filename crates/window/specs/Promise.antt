@@ -4,7 +4,7 @@ use mathlib.Core.Path.{_≡_}
 use mathlib.Core.Bool.{false}
 use Rattle.queue.specs.Items.{freshQueue, freshBatches}
 use Rattle.window.specs.declared.Answer.{Answer}
-use Rattle.window.specs.declared.Answer.the-variants.{Done, OutOfShape, NoSuchWindow, Suspended, NothingToRead, OtherTerm, OtherIndex, NothingReady, LineState, TooManyBatches, CatchUpFull, NoSuchBatch, NotSuspended, BadReport, LastTerm, OutputTooShort}
+use Rattle.window.specs.declared.Answer.the-variants.{Done, OutOfShape, NoSuchWindow, Suspended, NothingToRead, OtherTerm, OtherIndex, NothingReady, LineState, TooManyBatches, CatchUpFull, BadAck, NotSuspended, BadReport, LastTerm, OutputTooShort}
 use Rattle.window.specs.declared.Condition.the-variants.{Normal}
 use Rattle.window.specs.declared.Window.{Window}
 use Rattle.window.specs.declared.Turned.{Turned}
@@ -23,7 +23,7 @@ numberOf NothingReady = 7
 numberOf LineState = 8
 numberOf TooManyBatches = 9
 numberOf CatchUpFull = 10
-numberOf NoSuchBatch = 11
+numberOf BadAck = 11
 numberOf NotSuspended = 12
 numberOf BadReport = 13
 numberOf LastTerm = 14

@@ -5,13 +5,13 @@ use mathlib.Core.Path.{_≡_}
 use lib.ListN.{length}
 use borrow.Author.Needs.{needs}
 use Rattle.queue.specs.Items.{itemsOf}
-use Rattle.queue.specs.Laws.{skipped-front-over, skipped-front-fits}
+use Rattle.queue.specs.Laws.{whereFits-front-over, whereFits-front-fits}
 use Rattle.queue.proofs.Queue.skip.Statement.{statement}
 use Rattle.queue.proofs.Queue.skip.Tie as tie
 
 returns : tie.Need-returns
 unfolding itemsOf
-returns c = let over : 128 < c .before .args .self .len = omega arith in skipped-front-over _ _ _ _ over
+returns c = let over : 128 < c .before .args .self .len = omega arith in whereFits-front-over _ _ _ _ over
 
 slice-aggregate-move-down : tie.Need-slice-aggregate-move-down
 slice-aggregate-move-down c = search needs
@@ -25,7 +25,7 @@ returns-2 : tie.Need-returns-2
 unfolding itemsOf
 returns-2 c =
     let fits : c .before .before .before .before .before .args .self .len ≤ 128 = omega arith in
-    rw (skipped-front-fits _ _ _ _ fits) (c .before .move-down .ensures)
+    rw (whereFits-front-fits _ _ _ _ fits) (c .before .move-down .ensures)
 
 pub skip-spec : {M : Type 1} → statement M
 skip-spec = tie.close (tie.spec returns slice-aggregate-move-down move-down-requires returns-2)

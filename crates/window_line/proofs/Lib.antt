@@ -1,2 +1,0 @@
--- What the proofs share besides the laws of specs/.
-mod Struck
