@@ -1,4 +1,4 @@
-// Reading the text into the numbers, and writing the numbers as text.
+// Reading the text into the numbers, writing the numbers as text, and the pass over the numbers.
 use crate::input;
 use crate::show;
 
@@ -36,7 +36,15 @@ fn gives(journal: &[u32], text: &[u8]) -> bool {
     is_text(text, &out)
 }
 
-// Reads the text into the first so many numbers, or shows whether writing these gives it.
+// Passes over the first so many numbers.
+fn clean(journal: &mut [u32]) {
+    let count = input::number();
+    if count <= journal.len() {
+        show::cleaned(journal_text::clean(&mut journal[0..count]));
+    }
+}
+
+// Reads the text into the first so many numbers, as a text or as an old file, or shows whether writing these gives it.
 fn with_text(letter: u8, text: &[u8], journal: &mut [u32]) {
     let count = input::number();
     if journal.len() < count {
@@ -46,14 +54,19 @@ fn with_text(letter: u8, text: &[u8], journal: &mut [u32]) {
         show::read(journal_text::read(text, &mut journal[0..count]));
         return;
     }
+    if letter == b'o' {
+        show::read(journal_text::read_old(text, &mut journal[0..count]));
+        return;
+    }
     show::whether(gives(&journal[0..count], text));
 }
 
-// What a letter that reads or writes shows.
+// What a letter that reads, writes or cleans shows.
 pub(crate) fn letter(letter: u8, text: &mut [u8], size: usize, journal: &mut [u32]) {
     match letter {
         b'w' => write(text, journal),
-        b'r' | b'k' => {
+        b'c' => clean(journal),
+        b'r' | b'o' | b'k' => {
             if size <= text.len() {
                 with_text(letter, &text[0..size], journal);
             }

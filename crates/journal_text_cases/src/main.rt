@@ -1,14 +1,16 @@
-// Journal text: the vectors 01.in to 40.in, and the limits of length, room and shape. Standard input has a line for each case: letters
-// with the numbers after them, which do something to a text and to the numbers of a journal, or show something of them; and labels
-// between quotes, which are shown. A blank or a line end follows each number.
+// Journal text: the vectors t01.in to t40.in, which are texts, and c01.in to c12.in, which are journals for the pass, with what they come
+// to in `.want`, and in `.old` by the reader for old files; and the limits of length, room, shape, kinds and values. Standard input has a
+// line for each case: letters with the numbers after them, which do something to a text and to the numbers of a journal, or show something
+// of them; and labels between quotes, which are shown. A blank or a line end follows each number.
 //
 // | letter | what it does | letter | what it shows |
 // |---|---|---|---|
 // | `v` | the vector of a name becomes the text | `r` | what reading the text into the first so many numbers answers |
-// | `<` | adds the bytes up to `>` to the text | `e` | the first so many numbers, four to a line |
-// | `z` | gives the text a size | `w` | what writing the first so many numbers over so many bytes of the text answers |
-// | `j` | stores at a place a number | `k` | whether writing the first so many numbers elsewhere gives the text |
-// | `f` | fills the journal with notes to window 0 | | |
+// | `<` | adds the bytes up to `>` to the text | `o` | the same by the reader for old files |
+// | `z` | gives the text a size | `c` | what the pass over the first so many numbers answers |
+// | `n` | stores the numbers that the text shows | `e` | the first so many numbers, four to a line |
+// | `j` | stores at a place a number | `w` | what writing the first so many numbers over so many bytes of the text answers |
+// | `f` | fills the journal with notes to window 0 | `k` | whether writing the first so many numbers elsewhere gives the text |
 mod calls;
 mod input;
 mod numbers;
@@ -39,7 +41,7 @@ fn play(text: &mut [u8], journal: &mut [u32]) {
     while left > 0 {
         let letter = input::next();
         size = text::letter(letter, size, text);
-        numbers::letter(letter, journal);
+        numbers::letter(letter, text, size, journal);
         calls::letter(letter, text, size, journal);
         left -= 1;
     }

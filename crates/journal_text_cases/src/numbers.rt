@@ -1,6 +1,7 @@
 // The numbers of the journal, shown and stored.
 use crate::input;
 use crate::show;
+use decimal::Numeral;
 
 // Shows the number at a place, and after it a blank, or a line end where it is the last of an entry.
 fn cell(i: usize, n: u32) {
@@ -43,9 +44,31 @@ fn store(journal: &mut [u32]) {
     }
 }
 
+// Stores the numbers that a text shows, with a byte after each, from the journal's start on.
+fn shown(text: &[u8], journal: &mut [u32]) {
+    let mut at = 0;
+    let mut i = 0;
+    while i < journal.len() {
+        let Numeral::Number(n, next) = decimal::read(text, at, 4294967295) else {
+            return;
+        };
+        journal[i] = n;
+        at = next;
+        if at < text.len() {
+            at += 1;
+        }
+        i += 1;
+    }
+}
+
 // What a letter does to the numbers, or shows of them.
-pub(crate) fn letter(letter: u8, journal: &mut [u32]) {
+pub(crate) fn letter(letter: u8, text: &[u8], size: usize, journal: &mut [u32]) {
     match letter {
+        b'n' => {
+            if size <= text.len() {
+                shown(&text[0..size], journal);
+            }
+        }
         b'e' => entries(journal),
         b'f' => fill(journal),
         b'j' => store(journal),

@@ -1,4 +1,5 @@
 // Prints answers, numbers and bytes.
+use journal_text::Cleaning;
 use journal_text::Reading;
 use journal_text::Writing;
 use libc::STDOUT_FILENO;
@@ -23,6 +24,13 @@ pub(crate) fn read(r: Reading) {
         Reading::Entries(n) => pair(0, n as u64),
         Reading::BadLine(off) => pair(16, off as u64),
         Reading::TooShort => number(17, b'\n'),
+    }
+}
+
+pub(crate) fn cleaned(c: Cleaning) {
+    match c {
+        Cleaning::Cleaned => number(0, b'\n'),
+        Cleaning::OutOfShape => number(1, b'\n'),
     }
 }
 

@@ -4,7 +4,7 @@ use libc::STDIN_FILENO;
 
 // The number of bytes of the vector that the input names, read into `text`.
 fn load(text: &mut [u8]) -> usize {
-    let mut name = [0u8; 5];
+    let mut name = [0u8; 6];
     io::read_full(STDIN_FILENO, &mut name);
     let fd = os::open_read(&name);
     if fd < 0 {

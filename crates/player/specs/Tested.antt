@@ -15,7 +15,7 @@ use Rattle.rules.specs.Shape.{countFits, limitFits, windowShape, shape}
 use Rattle.player.specs.declared.Player.{Player}
 use Rattle.player.specs.View.{firstWindows, playerOf}
 use Rattle.player.specs.Promise.{numbersFit}
-use Rattle.player.specs.InShape.{inShape-entries}
+use Rattle.journal.specs.EntryLaws.{inShape-entries}
 use Rattle.player.specs.FirstWindows.{firstWindows-length, firstWindows-end, firstWindows-all}
 
 -- the numbers of a player that code holds

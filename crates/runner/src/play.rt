@@ -11,7 +11,7 @@ use script_line::Windows;
 ghost use Prim.Native.Nat.{_≤_};
 ghost use Rattle.runner.specs.Places.{Places, Waiting};
 
-// Reads an input from a file descriptor and writes the answers to standard output. A head with 2,000 entries has at most 60,918 bytes,
+// Reads an input from a file descriptor and writes the answers to standard output. A head with 2,000 entries has at most 58,918 bytes,
 // so where no line of the first 65,536 bytes is `run` the input is malformed.
 pub(crate) fn play(fd: i32) {
     let mut buf = io::large_buffer();

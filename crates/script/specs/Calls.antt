@@ -17,7 +17,7 @@ use Rattle.rules.specs.Rules.{Outcome, windowAt, operate, mainRule, catchRule, 
 use Rattle.rules.specs.Offers.{shaped, operate-cases}
 use Rattle.player.specs.declared.Played.{Played}
 use Rattle.player.specs.View.{playerOf}
-use Rattle.player.specs.InShape.{inShape-entries}
+use Rattle.journal.specs.EntryLaws.{inShape-entries}
 use Rattle.player.specs.Promise.{Meets}
 use Rattle.window.specs.Promise.{numberOf}
 use Rattle.delivery.specs.World.{World, sideAt, numbersIn, playerIn, answered, called, calledThen}

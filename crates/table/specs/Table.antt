@@ -19,7 +19,7 @@ use Rattle.rules.specs.Rules.{windowAt, mainRule, joinRule, sendRule, batchAt}
 use Rattle.rules.specs.Offers.{shaped, operated-at, mainRule-refusals, sendRule-refusals, joinRule-refusals, mainAt-room, mainAt-normal, readyOf, launched-ready, sendRule-done, joinRule-done, joinRule-can}
 use Rattle.journal_text.specs.Text.{header}
 use Rattle.journal_text.specs.Scan.{scan}
-use Rattle.journal_text.specs.Answers.{answer}
+use Rattle.journal_text.specs.Answers.{Current, answer}
 use Rattle.journal_text.specs.AnswerLaws.{Reads, reads-good, reads-bad}
 use Rattle.table.specs.Run.{RunA, row-a, StageA, row-a-stage}
 use Rattle.table.specs.States.{OneMore, oneMore-wanted, oneMore-window, EightOut, eightOut-within, eightOut-here, MoreReady, moreReady-taken, moreReady-length, moreReady-answer, Away, CanTake, canTake-below, canTake-post, canTake-close, OpenUntil, openUntil-stamps, StillClosed, closed-post, lent-answer, lent-count}
@@ -62,7 +62,7 @@ pub record ProvedTable : Type 0 where
   -- and with any off second but 0
   pub h-any : (r : Record) (race s : ℕ) → OpenUntil r race (s + 1) → (mayStamp r race s ≡ true) × (mayStamp r race (s + 1) ≡ false)
   -- (i) Header alone: no entries; no bytes: 16 at 0. The output is as it was.
-  pub i : (out : List ℕ) → Reads header out (answer 0 (0 ∷ [])) out × Reads [] out (answer 16 (0 ∷ [])) out
+  pub i : (out : List ℕ) → Reads Current header out (answer 0 (0 ∷ [])) out × Reads Current [] out (answer 16 (0 ∷ [])) out
   -- (j) POST after CLOSE: still closed, in any record.
   pub j : (r : Record) (race : ℕ) → CanTake r race 2 → (index set value index′ set′ value′ : ℕ) →
       let close : Outcome = takeNumbers (index ∷ set ∷ 3 ∷ race ∷ value ∷ []) r in
@@ -111,7 +111,7 @@ proved-table = record {
     openUntil-stamps q s ∙ lt-ltb s (s + 1) (omega arith),
     openUntil-stamps q (s + 1) ∙ le-ltb (s + 1) (s + 1) (omega arith),
   );
-  i = λ out. (reads-good header out [] refl (omega arith), reads-bad [] out [] 0 refl);
+  i = λ out. (reads-good Current header out [] refl (omega arith), reads-bad Current [] out [] 0 refl);
   j = λ r race q index set value index′ set′ value′.
       let r′ : Record = takeNumbers (index ∷ set ∷ 3 ∷ race ∷ value ∷ []) r .record′ in
       let below : r′ .count < 4294967295 = omega (arith, lent-count r (canTake-below q) index set 3 race value, q .room) in
