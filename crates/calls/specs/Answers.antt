@@ -10,6 +10,7 @@ use Rattle.lists.specs.Cases.{true-or-false}
 use Rattle.lists.specs.Elem.{elem}
 use Rattle.rules.specs.declared.Term.{Term}
 use Rattle.rules.specs.View.{PlayerView}
+use Rattle.rules.specs.Window.{Report}
 use Rattle.rules.specs.Rules.{mainRule, catchRule, writtenRule, ackRule, dropRule, joinRule, sendRule, startRule}
 use Rattle.rules.specs.Offers.{startRule-refusals, mainRule-refusals, catchRule-refusals, sendRule-refusals, writtenRule-refusals, ackRule-refusals, dropRule-refusals, joinRule-refusals}
 use Rattle.window.specs.declared.Answer.{Answer}
@@ -58,7 +59,7 @@ cond-same false x = refl
 -- ------------------------------------------------------------------------
 -- The rules
 
-pub start-numbered : (ns : List ℕ) (count limit : ℕ) (reports : List ℕ) (p : PlayerView) →
+pub start-numbered : (ns : List ℕ) (count limit : ℕ) (reports : List Report) (p : PlayerView) →
     Numbered (startRule ns count limit reports p .answer)
 start-numbered ns count limit reports p =
     numbered answers _ (simp (startRule-refusals ns count limit reports p, cond-in, done-in, cond-same))

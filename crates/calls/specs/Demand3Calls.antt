@@ -4,31 +4,30 @@ use mathlib.Core.Path.{_≡_, refl, sym, ap, subst₂, _∙_}
 use mathlib.Core.List.{List, [], _∷_, map, map-map, map-id}
 use mathlib.Core.Bool.{true}
 use borrow.Author.Tests.{eqb-true}
-use lib.ListN.{length, replicate, take, length-map, length-replicate}
+use lib.ListN.{length, replicate, take}
 use Rattle.journal.specs.Entry.{numbersOf, entriesOf, countOf, fiveOf}
 use Rattle.journal.specs.EntryLaws.{numbersOf-entriesOf}
 use Rattle.journal.specs.Own.{own}
 use Rattle.lists.specs.Cases.{and-left}
 use Rattle.record.specs.Record.{newRecord, takeAll}
 use Rattle.rules.specs.View.{WindowView}
-use Rattle.rules.specs.Window.{started}
-use Rattle.rules.specs.Rules.{Outcome, startRule}
+use Rattle.rules.specs.Window.{Report}
+use Rattle.rules.specs.Rules.{Outcome, speaks, startRule}
 use Rattle.rules.specs.Offers.{StartDone, startRule-done}
 use Rattle.window.specs.Promise.{numberOf}
 use Rattle.player.specs.declared.Player.{Player}
 use Rattle.player.specs.declared.Played.{Played}
 use Rattle.player.specs.View.{playerOf}
-use Rattle.player.specs.Promise.{Starts}
 use Rattle.delivery.specs.World.{World, newSide, sideAt, playerIn, Step, run}
 use Rattle.delivery.specs.World as W
-use Rattle.delivery.specs.Statement.{firstStart}
+use Rattle.delivery.specs.Statement.{newReports, firstStart}
 use Rattle.delivery.specs.Statement as Delivery
 use Rattle.delivery.specs.Invariant.{Reached}
 use Rattle.delivery.specs.Worlds.{entries-in, count-in}
 use Rattle.delivery.specs.Reach.{reached-run}
 use Rattle.delivery.specs.Demand3.{opened-reached, demand-3}
 use Rattle.calls.specs.Host.{Host, newEnd, endAt, Call, MadeAll, hostAfter, opened}
-use Rattle.calls.specs.Statement.{joinedAfter, Leading, Delivers, Demand3Calls}
+use Rattle.calls.specs.Statement.{joinedAfter, Leading, Delivers, FirstStart, Demand3Calls}
 use Rattle.calls.specs.Shows.{endOf, Shows, shows-end}
 use Rattle.calls.specs.Steps.{callStep}
 use Rattle.calls.specs.Runs.{hostAfter-shows, changes-steps, joinedAfter-steps}
@@ -57,11 +56,11 @@ module _ (count : ℕ) {h : Host} {wd : World} (is : Shows h wd) (reached : Reac
   shown : Shows (hostAfter h calls) (run wd steps)
   shown = hostAfter-shows is reached calls made
 
-  delivers-shown : Delivery.Delivers count wd steps → Delivers count h calls
-  delivers-shown d =
-      let joined : ((w : ℕ) → w < count → joinedAfter w true calls ≡ true) →
-      (w : ℕ) → w < count → Delivery.joinedAfter w true wd steps ≡ true
-      = λ j w l. sym (joinedAfter-steps w true is reached calls made) ∙ j w l in
+  delivers-shown : (silent : ℕ) → Delivery.Delivers count silent wd steps → Delivers count silent h calls
+  delivers-shown silent d =
+      let joined : ((w : ℕ) → w < count → joinedAfter w (speaks silent w) calls ≡ true) →
+      (w : ℕ) → w < count → Delivery.joinedAfter w (speaks silent w) wd steps ≡ true
+      = λ j w l. sym (joinedAfter-steps w (speaks silent w) is reached calls made) ∙ j w l in
       record {
         leading = λ w l. leading-shown shown w (d .leading w l);
         bound = λ j.
@@ -81,28 +80,26 @@ newSide-ends : (vs : List WindowView) → map endOf (map newSide vs) ≡ replica
 newSide-ends [] = refl
 newSide-ends (v ∷ vs) = ap (λ l. newEnd ∷ l) (newSide-ends vs)
 
-module _ (before : Player) (ns : List ℕ) (count limit : ℕ) (r : Played)
-    (made : Starts before count limit (replicate count 0) r (startRule ns count limit (replicate count 0) (playerOf before)))
+module _ (before : Player) (ns : List ℕ) (count limit silent : ℕ) (r : Played) (made : FirstStart before ns count limit silent r)
     (done : numberOf (r .answer) ≡ 0) where
+  abbrev told-first : List Report
+  told-first = newReports silent count
+
   abbrev first : Outcome
-  first = startRule ns count limit (replicate count 0) (playerOf before)
+  first = startRule ns count limit told-first (playerOf before)
 
   abbrev firstIn : Outcome
-  firstIn = firstStart (playerOf before) (entriesOf ns) count limit
+  firstIn = firstStart (playerOf before) (entriesOf ns) count limit silent
 
-  started-done : StartDone ns count limit (replicate count 0) first
-  started-done = startRule-done ns count limit (replicate count 0) (playerOf before) (sym (made .answer) ∙ done)
+  started-done : StartDone ns count limit told-first first
+  started-done = startRule-done ns count limit told-first (playerOf before) (sym (made .answer) ∙ done)
 
   -- a journal that Start takes is the numbers of its entries
   whole : numbersOf (entriesOf ns) ≡ ns
   whole = numbersOf-entriesOf ns (eqb-true _ _ (and-left _ _ (started-done .given .journal)))
 
   first-same : firstIn ≡ first
-  first-same = ap (λ ns. startRule ns count limit (replicate count 0) (playerOf before)) whole
-
-  windows-count : length (first .next .windows) ≡ count
-  windows-count =
-      ap (λ q. length (q .windows)) (started-done .next) ∙ length-map (replicate count 0) started ∙ length-replicate count 0
+  first-same = ap (λ ns. startRule ns count limit told-first (playerOf before)) whole
 
   pub opened-shows : Shows (opened (r .player) ns count) (W.opened (entriesOf ns) firstIn)
   unfolding W.opened
@@ -114,7 +111,7 @@ module _ (before : Player) (ns : List ℕ) (count limit : ℕ) (r : Played)
         ∙ ap (λ o. playerIn (W.opened (entriesOf ns) o)) (sym first-same);
     journal = sym whole;
     windows =
-        ap (λ n. replicate n newEnd) (sym windows-count)
+        ap (λ n. replicate n newEnd) (sym (started-done .windows))
         ∙ sym (newSide-ends (first .next .windows))
         ∙ ap (λ o. map endOf (map newSide (o .next .windows))) (sym first-same);
   }
@@ -122,11 +119,11 @@ module _ (before : Player) (ns : List ℕ) (count limit : ℕ) (r : Played)
   first-done : firstIn .answer ≡ 0
   first-done = ap (λ o. o .answer) first-same ∙ sym (made .answer) ∙ done
 
-  delivers : (calls : List Call) → MadeAll (opened (r .player) ns count) calls → Delivers count (opened (r .player) ns count) calls
+  delivers : (calls : List Call) → MadeAll (opened (r .player) ns count) calls → Delivers count silent (opened (r .player) ns count) calls
   delivers calls all =
-      delivers-shown count opened-shows (opened-reached (playerOf before) (entriesOf ns) count limit first-done) calls all
-      (demand-3 (playerOf before) (entriesOf ns) count limit (map callStep calls) first-done)
+      delivers-shown count opened-shows (opened-reached (playerOf before) (entriesOf ns) count limit silent first-done) calls all silent
+      (demand-3 (playerOf before) (entriesOf ns) count limit silent (map callStep calls) first-done)
 
--- Demand 3 of the calls, for every W, batch limit, journal and list of calls
+-- Demand 3 of the calls, for every W, batch limit, set of silent windows, journal and list of calls
 pub demand-3-calls : Demand3Calls
-demand-3-calls before ns count limit r made done calls all = delivers before ns count limit r made done calls all
+demand-3-calls before ns count limit silent r made done calls all = delivers before ns count limit silent r made done calls all

@@ -1,6 +1,6 @@
--- Document 01, "Whole runs", with document 02's acks (W1), of the calls as `src/` has them: what a host holds, what each call is handed and
--- gives back, what the calls promise of that, and what the host holds afterwards. Each call is handed the player, record and journal as the
--- calls before left them.
+-- Document 01, "Whole runs", with document 02's acks (W1) and silent windows (W3), of the calls as `src/` has them: what a host holds, what
+-- each call is handed and gives back, what the calls promise of that, and what the host holds afterwards. Each call is handed the player,
+-- record and journal as the calls before left them.
 use Prim.Native.Nat.{ℕ, _<_}
 use mathlib.Core.Path.{_≡_}
 use mathlib.Core.List.{List, [], _∷_, _++_, map}
@@ -16,7 +16,8 @@ use Rattle.record.specs.Record.{newRecord, outcomeOf, takeNumbers}
 use Rattle.record.specs.Record as Take
 use Rattle.rules.specs.declared.Term.{Term}
 use Rattle.rules.specs.View.{WindowView}
-use Rattle.rules.specs.Rules.{windowAt, mainRule, catchRule, writtenRule, ackRule, dropRule, joinRule, sendRule, sendOutput, startRule}
+use Rattle.rules.specs.Window.{Report}
+use Rattle.rules.specs.Rules.{windowAt, mainRule, catchRule, writtenRule, ackRule, dropRule, joinRule, sendRule, sendOutput, said, startRule}
 use Rattle.window.specs.Promise.{numberOf}
 use Rattle.player.specs.declared.Player.{Player}
 use Rattle.player.specs.declared.Played.{Played}
@@ -86,9 +87,9 @@ putOn batch d = withLines (d .line ++ batch) (d .back) d
 -- Calls
 
 -- A call: what it was handed beside the player, record and journal, and then what it gave back. Send is lent an output and leaves `out`.
--- Take is lent the front entry of its window's line, Ack is handed the front ack, Join the window's last index, and Start W and each
--- window's last index: the host has no choice there. A Take says whether it acks an entry that is not the last of its batch. `late-ack` is
--- an Ack offer of an older term. An append is the host's own.
+-- Take is lent the front entry of its window's line, Ack is handed the front ack, Join the window's last index, and Start W and the last
+-- index of each window that is not silent: the host has no choice there. It chooses the set of silent windows. A Take says whether it acks
+-- an entry that is not the last of its batch. `late-ack` is an Ack offer of an older term. An append is the host's own.
 pub data Call : Type 0 where
   main : (index : Index) (gave : Played) → Call
   catch : (w : ℕ) (t : Term) (index : Index) (gave : Played) → Call
@@ -99,7 +100,7 @@ pub data Call : Type 0 where
   late-ack : (w : ℕ) (t : Term) (index : Index) (gave : Played) → Call
   drop : (w : ℕ) (gave : Played) → Call
   join : (w : ℕ) (gave : Played) → Call
-  start : (limit : ℕ) (gave : Played) → Call
+  start : (limit silent : ℕ) (gave : Played) → Call
   append : (e : Entry) → Call
 
 -- the report of a window: the last index in its record
@@ -134,9 +135,9 @@ Made h (ack w r) = MadeAck w r (endAt w h .back) h
 Made h (late-ack w t i r) = (isLate w t h ≡ true) × (Meets (h .player) r (ackRule (h .journal) w t (i .0) (playerOf (h .player))))
 Made h (drop w r) = Meets (h .player) r (dropRule (h .journal) w (playerOf (h .player)))
 Made h (join w r) = Meets (h .player) r (joinRule (h .journal) w (reportOf (endAt w h)) (playerOf (h .player)))
-Made h (start limit r) =
-    let reports : List ℕ = map reportOf (h .windows) in
-    Starts (h .player) (length (h .windows)) limit reports r
+Made h (start limit silent r) =
+    let reports : List Report = said silent (map reportOf (h .windows)) in
+    Starts (h .player) (countOf (h .journal)) (length (h .windows)) limit reports r
     (startRule (h .journal) (length (h .windows)) limit reports (playerOf (h .player)))
 Made h (append e) = countOf (h .journal) < 65535
 
@@ -196,7 +197,7 @@ after (ack w r) h = ackFront w r (endAt w h .back) h
 after (late-ack w t i r) h = withPlayer (r .player) h
 after (drop w r) h = withPlayer (r .player) h
 after (join w r) h = called r (changed w cleared) h
-after (start limit r) h = called r clearedAll h
+after (start limit silent r) h = called r clearedAll h
 after (append e) h = record { player = h .player; journal = h .journal ++ numbersOf (e ∷ []); windows = h .windows }
 
 -- ------------------------------------------------------------------------

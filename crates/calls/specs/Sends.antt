@@ -77,8 +77,8 @@ batch-rises : {j : List Entry} {c w : ℕ} (p : Side) → c ≤ length j → Inv
 unfolding indices
 batch-rises {j} {c} {w} p read inv limit size out =
     let xs : List ℕ = batchOf limit (p .view) .indices in
-    let end : ℕ = launched (batchOf limit (p .view)) .sent in
-    let line = keep-send j c w read p inv limit size out .inv .flight .lineIs in
+    let end : ℕ = lastOr 0 (batchOf limit (p .view) .indices) in
+    let line = keep-send j c w read p inv limit size out .line in
     let is : indices (lineEntries (p .line)) ++ xs ≡ due j w (lastOf p) end
     = ap (λ l. indices (lineEntries (p .line)) ++ l) (sym (ap indices (onLine-entries j (p .view .term) xs) ∙ indices-placed j xs))
     ∙ sym (map-append (λ q. q .index) (lineEntries (p .line)) (lineEntries (onLine j (p .view .term) xs)))

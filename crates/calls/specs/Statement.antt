@@ -3,18 +3,20 @@ use Prim.Native.Nat.{ℕ, suc, _+_, _*_, _≤_, _<_}
 use mathlib.Core.Path.{_≡_}
 use mathlib.Core.List.{List, [], _∷_, map}
 use mathlib.Core.Bool.{Bool, true, false, cond, _&&_}
-use lib.ListN.{replicate, take}
+use lib.ListN.{take}
 use lib.Dec.{eqb}
 use Rattle.journal.specs.Entry.{countOf, entriesOf, fiveOf}
 use Rattle.journal.specs.Own.{own}
 use Rattle.record.specs.Record.{newRecord, takeAll}
 use Rattle.rules.specs.View.{PlayerView}
-use Rattle.rules.specs.Rules.{startRule}
+use Rattle.rules.specs.Window.{Report}
+use Rattle.rules.specs.Rules.{speaks, startRule}
 use Rattle.window.specs.Promise.{numberOf}
 use Rattle.player.specs.declared.Player.{Player}
 use Rattle.player.specs.declared.Played.{Played}
 use Rattle.player.specs.View.{playerOf}
 use Rattle.player.specs.Promise.{Starts}
+use Rattle.delivery.specs.Statement.{newReports}
 use Rattle.delivery.specs.Same.{sameBool, sameList, sameWindow, sameRecord, sameAck}
 use Rattle.calls.specs.Host.{Sent, WindowEnd, Host, endAt, Call, main, catch, written, send, ack, late-ack, drop, join, start, append, Made, isDone, after, MadeAll, hostAfter, opened}
 use Rattle.calls.specs.Host as H
@@ -52,7 +54,7 @@ begins (ack w r) = false
 begins (late-ack w t i r) = false
 begins (drop w r) = isDone r
 begins (join w r) = isDone r
-begins (start limit r) = isDone r
+begins (start limit silent r) = isDone r
 begins (append e) = true
 
 -- The number of calls since the last fault or append that changed something: the player's state, a record or a line differs after it.
@@ -72,7 +74,7 @@ joinedBy w (ack v r) b = b
 joinedBy w (late-ack v t i r) b = b
 joinedBy w (drop v r) b = cond (isDone r) (cond (eqb v w) false b) b
 joinedBy w (join v r) b = cond (isDone r) (cond (eqb v w) true b) b
-joinedBy w (start limit r) b = cond (isDone r) true b
+joinedBy w (start limit silent r) b = cond (isDone r) (speaks silent w) b
 joinedBy w (append e) b = b
 
 -- whether window w is joined after the list, where it was or was not before
@@ -91,7 +93,7 @@ isWork (ack w r) = true
 isWork (late-ack w t i r) = true
 isWork (drop w r) = false
 isWork (join w r) = false
-isWork (start limit r) = false
+isWork (start limit silent r) = false
 isWork (append e) = false
 
 -- "None can": no Main, Catch, Send, Written, Take or Ack that the list might go on with would change anything, whatever it gives that meets
@@ -109,23 +111,27 @@ pub record Leading (ns : List ℕ) (w : ℕ) (d : WindowEnd) : Type 0 where
   pub list : d .taken ≡ map fiveOf (take k (own (entriesOf ns) w))
   pub folded : d .record′ ≡ takeAll (take k (own (entriesOf ns) w)) newRecord
 
--- the three results, for a host, a list of calls from there, and W windows
-pub record Delivers (count : ℕ) (h : Host) (calls : List Call) : Type 0 where
+-- the three results, for W windows, the set of those silent at the first Start, the host after it, and a list of calls from there
+pub record Delivers (count silent : ℕ) (h : Host) (calls : List Call) : Type 0 where
   -- every window has taken a leading part of its own entries, once each and in order
   pub leading : (w : ℕ) → w < count → Leading (hostAfter h calls .journal) w (endAt w (hostAfter h calls))
   -- with all windows joined, at most L × (1 + 5 × W) calls since the last fault or append changed anything
-  pub bound : ((w : ℕ) → w < count → joinedAfter w true calls ≡ true) →
+  pub bound : ((w : ℕ) → w < count → joinedAfter w (speaks silent w) calls ≡ true) →
       changes 0 h calls ≤ countOf (hostAfter h calls .journal) * (1 + 5 * count)
   -- with all windows joined, when none can, every window has taken all of its own entries
-  pub finish : ((w : ℕ) → w < count → joinedAfter w true calls ≡ true) → NoneCan (hostAfter h calls) →
+  pub finish : ((w : ℕ) → w < count → joinedAfter w (speaks silent w) calls ≡ true) → NoneCan (hostAfter h calls) →
       (w : ℕ) → w < count → endAt w (hostAfter h calls) .taken ≡ map fiveOf (own (entriesOf (hostAfter h calls .journal)) w)
 
--- Demand 3 of the calls. The list starts from new windows, empty lines, any journal and a Start answered 0, which is handed whatever player
--- there was before, and as each window's report a new record's last index. W, the batch limit and the journal are any that this Start
--- takes, and the calls are any that meet their promises.
+-- what the first Start gives meets its promise: it is handed the reports of new windows, and whatever player there was before
+abbrev pub FirstStart : Player → List ℕ → (count limit silent : ℕ) → Played → Type 0
+FirstStart before ns count limit silent r =
+    let reports : List Report = newReports silent count in
+    Starts before (countOf ns) count limit reports r (startRule ns count limit reports (playerOf before))
+
+-- Demand 3 of the calls. The list starts from new windows, empty lines, any journal and a Start answered 0. W, the batch limit, the silent
+-- windows and the journal are any that this Start takes, and the calls are any that meet their promises.
 abbrev pub Demand3Calls : Type 0
 Demand3Calls =
-    (before : Player) (ns : List ℕ) (count limit : ℕ) (r : Played) →
-    Starts before count limit (replicate count 0) r (startRule ns count limit (replicate count 0) (playerOf before)) →
-    numberOf (r .answer) ≡ 0 →
-    (calls : List Call) → MadeAll (opened (r .player) ns count) calls → Delivers count (opened (r .player) ns count) calls
+    (before : Player) (ns : List ℕ) (count limit silent : ℕ) (r : Played) →
+    FirstStart before ns count limit silent r → numberOf (r .answer) ≡ 0 →
+    (calls : List Call) → MadeAll (opened (r .player) ns count) calls → Delivers count silent (opened (r .player) ns count) calls

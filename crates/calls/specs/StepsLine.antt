@@ -5,7 +5,7 @@ use mathlib.Core.Logic.{⊎-elim}
 use mathlib.Core.List.{List, [], _∷_, _++_, map, map-append, map-map}
 use mathlib.Core.Bool.{Bool, true, false, cond, _||_}
 use borrow.Author.Tests.{lt-ltb, le-ltb}
-use lib.ListN.{length, length-map, List·getD-eq-default}
+use lib.ListN.{length, List·getD-eq-default}
 use lib.Seq.{set-getD}
 use lib.Dec.{eqb}
 use Rattle.lists.specs.Cases.{eq-or-ne, le-or-lt}
@@ -13,8 +13,8 @@ use Rattle.journal.specs.Entry.{Placed, fiveOf}
 use Rattle.record.specs.declared.Taken.{Taken}
 use Rattle.record.specs.Record.{takeNumbers}
 use Rattle.record.specs.Record as Take
-use Rattle.rules.specs.Window.{started}
-use Rattle.rules.specs.Rules.{Outcome, windowAt, ackRule, joinRule, sendRule, sendOutput, batchAt, startRule}
+use Rattle.rules.specs.Window.{Report}
+use Rattle.rules.specs.Rules.{Outcome, windowAt, ackRule, joinRule, sendRule, sendOutput, batchAt, said, startRule}
 use Rattle.rules.specs.Offers.{sendRule-lawful, ackRule-lawful, joinRule-lawful, startRule-done, startRule-refuses}
 use Rattle.player.specs.declared.Played.{Played}
 use Rattle.player.specs.View.{playerOf}
@@ -173,30 +173,32 @@ shows-cleared {h} {wd} is = record {
 }
 
 module _ {h : Host} {wd : World} (is : Shows h wd) where
-  start-count : (limit : ℕ) →
-      length (startRule (numbersIn wd) (length (wd .sides)) limit (reportsIn wd) (playerIn wd) .next .windows) ≡ length (wd .sides)
-  start-count limit =
-      let o : Outcome = startRule (numbersIn wd) (length (wd .sides)) limit (reportsIn wd) (playerIn wd) in
+  start-count : (limit silent : ℕ) →
+      length (startRule (numbersIn wd) (length (wd .sides)) limit (said silent (reportsIn wd)) (playerIn wd) .next .windows)
+      ≡ length (wd .sides)
+  start-count limit silent =
+      let rs : List Report = said silent (reportsIn wd) in
+      let o : Outcome = startRule (numbersIn wd) (length (wd .sides)) limit rs (playerIn wd) in
       ⊎-elim
       (λ (e : o .answer ≡ 0).
-      ap (λ q. length (q .windows)) (startRule-done (numbersIn wd) (length (wd .sides)) limit (reportsIn wd) (playerIn wd) e .next)
-      ∙ length-map (reportsIn wd) started ∙ length-map (wd .sides) lastOf)
+      startRule-done (numbersIn wd) (length (wd .sides)) limit rs (playerIn wd) e .windows)
       (λ (n : o .answer ≡ 0 → ⊥).
-      ap (λ q. length (q .windows)) (startRule-refuses (numbersIn wd) (length (wd .sides)) limit (reportsIn wd) (playerIn wd) n)
+      ap (λ q. length (q .windows)) (startRule-refuses (numbersIn wd) (length (wd .sides)) limit rs (playerIn wd) n)
       ∙ windows-in wd)
       (eq-or-ne (o .answer) 0)
 
-  pub follows-start : (limit : ℕ) (r : Played) → Made h (start limit r) → Follows (start limit r) h wd
+  pub follows-start : (limit silent : ℕ) (r : Played) → Made h (start limit silent r) → Follows (start limit silent r) h wd
   unfolding step after
-  follows-start limit r made =
+  follows-start limit silent r made =
       let n : ℕ = length (wd .sides) in
+      let rs : List Report = said silent (reportsIn wd) in
       let reports : map reportOf (h .windows) ≡ reportsIn wd = ap (map reportOf) (is .windows) ∙ map-map reportOf endOf (wd .sides) in
-      let k = shows-rule is (λ ns p. startRule ns n limit (reportsIn wd) p)
-      (subst₂ (λ n rs. Gives r (startRule (h .journal) n limit rs (playerOf (h .player)))) (shows-count is) reports
+      let k = shows-rule is (λ ns p. startRule ns n limit rs p)
+      (subst₂ (λ n rs. Gives r (startRule (h .journal) n limit (said silent rs) (playerOf (h .player)))) (shows-count is) reports
       (record { answer = made .answer; next = made .next })) in
       record {
         shows =
-            shows-called is r (startRule (numbersIn wd) n limit (reportsIn wd) (playerIn wd)) clearedAll sidesCleared k (start-count limit)
+            shows-called is r (startRule (numbersIn wd) n limit rs (playerIn wd)) clearedAll sidesCleared k (start-count limit silent)
             (λ z. shows-cleared);
         anew = answer-same is _ k;
       }

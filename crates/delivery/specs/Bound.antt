@@ -150,7 +150,7 @@ module _ (n : ℕ) (wd : World) (s : Step) (r : Reached wd) (h : n + workLeft wd
       counted quiet (work-most wd (step s wd .world) work) (sameWorld wd (step s wd .world)) refl (work-lowers wd (step s wd .world) r work)
   by-facts (dropping w is done k e sh) = anew (drop w) is done
   by-facts (joining w is done k away e sh) = anew (join w) is done
-  by-facts (starting b is done m) = anew (start b) is done
+  by-facts (starting b silent is done m) = anew (start b silent) is done
   by-facts (appending e is done k same) = anew (append e) is done
 
 -- the count so far and the work left are together at most L × (1 + 5 × W)

@@ -1,31 +1,31 @@
 -- Demand 3 holds.
 use Prim.Native.Nat.{ℕ, _+_, _*_, _≤_, _<_}
-use mathlib.Core.Path.{_≡_, refl, sym, ap, subst, subst⁻¹, _∙_}
-use mathlib.Core.List.{List, _++_, map, map-append, map-map, map-id}
+use mathlib.Core.Path.{_≡_, refl, sym, ap, ap₂, subst, subst⁻¹, _∙_}
+use mathlib.Core.List.{List, [], _++_, map, map-append, map-map, map-id}
 use mathlib.Core.Bool.{true, not}
 use native.Mathlib.Omega.{arith}
 use native.Mathlib.Nat.{le-refl}
 use lib.ListN.{length, getD, take, replicate, length-map, length-replicate, getD-replicate, List·getD-map}
 use lib.Seq.{take-append-seam}
 use Rattle.journal.specs.declared.Entry.{Entry}
-use Rattle.journal.specs.Entry.{Placed, numbersOf, placedAt}
+use Rattle.journal.specs.Entry.{Placed, countOf, numbersOf, placedAt}
 use Rattle.journal.specs.Due.{due, due-split, due-empty}
 use Rattle.journal.specs.Own.{own, own-due}
 use Rattle.record.specs.Record.{newRecord, takeAll}
 use Rattle.record.specs.Laws.{takeAll-nil}
 use Rattle.rules.specs.View.{PlayerView, noWindow}
 use Rattle.rules.specs.Shape.{shape}
-use Rattle.rules.specs.Window.{isSuspended, started}
-use Rattle.rules.specs.Rules.{Outcome, windowAt, least}
-use Rattle.rules.specs.Offers.{StartDone, startRule-done, startNext-at, least-some, start-shaped}
+use Rattle.rules.specs.Window.{isSuspended, Report, silence, startedBy}
+use Rattle.rules.specs.Rules.{Outcome, windowAt, speaks, saidBy}
+use Rattle.rules.specs.Offers.{StartDone, said-at, least-le, startRule-done, startNext-at, start-shaped}
 use Rattle.delivery.specs.World.{Side, World, sideAt, playerIn, newSide, opened, Step, run}
-use Rattle.delivery.specs.Statement.{changes, Leading, Delivers, firstStart, Demand3}
+use Rattle.delivery.specs.Statement.{changes, Leading, Delivers, newReports, firstStart, Demand3}
 use Rattle.delivery.specs.Invariant.{Taken, Inv, Reached, lastOf}
-use Rattle.delivery.specs.Queued.{holds-none}
-use Rattle.delivery.specs.KeepFault.{begun}
+use Rattle.delivery.specs.Worlds.{count-in}
+use Rattle.delivery.specs.KeepFault.{keep-start}
 use Rattle.delivery.specs.Reach.{reached-run}
 use Rattle.delivery.specs.Bound.{workLeft-most, changes-bound}
-use Rattle.delivery.specs.Joined.{run-count, joined-run}
+use Rattle.delivery.specs.Joined.{run-count, startedBy-away, joined-run}
 use Rattle.delivery.specs.Finish.{taken-all}
 
 -- ------------------------------------------------------------------------
@@ -45,66 +45,71 @@ leading-part j w p is =
 -- ------------------------------------------------------------------------
 -- the beginning
 
-new-inv : (j : List Entry) (w : ℕ) → Inv j 0 w (newSide (started 0))
-new-inv j w =
-    begun (newSide (started 0)) (started 0)
-    (record {
-      lastIn = omega arith;
-      lastOwn = refl;
-      takenIs = ap (map (placedAt j)) (sym (due-empty j w 0 0 (le-refl 0)));
-      recordIs = sym (takeAll-nil newRecord);
-    })
-    refl refl refl refl (record { ahead = omega arith; normalHas = holds-none (le-refl 0) })
+-- a new window has taken nothing
+new-taken : (j : List Entry) (w : ℕ) → Taken j w newRecord []
+new-taken j w = record {
+  lastIn = omega arith;
+  lastOwn = refl;
+  takenIs = ap (map (placedAt j)) (sym (due-empty j w 0 0 (le-refl 0)));
+  recordIs = sym (takeAll-nil newRecord);
+}
 
-module _ (before : PlayerView) (j : List Entry) (count limit : ℕ) (done : firstStart before j count limit .answer ≡ 0) where
-  -- the first Start
+module _ (before : PlayerView) (j : List Entry) (count limit silent : ℕ) (done : firstStart before j count limit silent .answer ≡ 0) where
+  -- the first Start, and what it is told
   abbrev first : Outcome
-  first = firstStart before j count limit
+  first = firstStart before j count limit silent
 
-  start-done : StartDone (numbersOf j) count limit (replicate count 0) first
-  start-done = startRule-done (numbersOf j) count limit (replicate count 0) before done
+  abbrev told-first : List Report
+  told-first = newReports silent count
 
-  reports-zero : (w : ℕ) → w < length (replicate {A = ℕ} count 0) → _≡_ {A = ℕ} (getD (replicate count 0) w 0) 0
-  reports-zero w h = getD-replicate count w 0 0 (omega (arith, length-replicate {A = ℕ} count 0))
+  start-done : StartDone (numbersOf j) count limit told-first first
+  start-done = startRule-done (numbersOf j) count limit told-first before done
+
+  -- of each window silence, or a report of 0
+  told-at : (w : ℕ) → w < count → getD told-first w silence ≡ saidBy silent w 0
+  told-at w h =
+      said-at silent (replicate count 0) w (omega (arith, length-replicate {A = ℕ} count 0))
+      ∙ ap (saidBy silent w) (getD-replicate count w 0 0 h)
 
   opened-count : length (opened j first .sides) ≡ count
   unfolding opened
   opened-count =
-      length-map (first .next .windows) newSide
-      ∙ ap (λ q. length (q .windows)) (start-done .next)
-      ∙ length-map (replicate count 0) started
-      ∙ length-replicate count 0
+      length-map (first .next .windows) newSide ∙ start-done .windows
 
-  opened-current : opened j first .current ≡ 0
+  -- `current` is 0 where a window speaks
+  opened-least : (w : ℕ) → w < count → speaks silent w ≡ true → opened j first .current ≤ 0
   unfolding opened
-  opened-current =
-      let low : least (replicate count 0) ≤ 0 = least-some 0 (replicate count 0) (λ w h. omega (arith, reports-zero w h)) in
-      ap (λ q. q .current) (start-done .next) ∙ (let z : least (replicate count 0) ≡ 0 = omega arith in z)
+  opened-least w h speaking =
+      subst⁻¹ (λ c. c ≤ 0) (ap (λ q. q .current) (start-done .next))
+      (least-le (countOf (numbersOf j)) told-first w 0 (told-at w h ∙ rw speaking))
 
-  opened-side : (w : ℕ) → w < count → sideAt w (opened j first) ≡ newSide (started 0)
+  opened-side : (w : ℕ) → w < count → sideAt w (opened j first) ≡ newSide (startedBy (length j) (saidBy silent w 0))
   unfolding opened
   opened-side w h =
-      let k : w < length (replicate {A = ℕ} count 0) = omega (arith, length-replicate {A = ℕ} count 0) in
       List·getD-map newSide (first .next .windows) w noWindow
-      ∙ ap newSide (ap (windowAt w) (start-done .next) ∙ startNext-at limit (replicate count 0) w k ∙ ap started (reports-zero w k))
+      ∙ ap newSide
+      (ap (windowAt w) (start-done .next)
+      ∙ startNext-at (countOf (numbersOf j)) limit told-first w (omega (arith, start-done .given .each))
+      ∙ ap₂ startedBy (count-in (opened j first)) (told-at w h))
 
   opened-shaped : shape (numbersOf j) (playerIn (opened j first)) ≡ true
   unfolding opened
   opened-shaped =
       ap (λ vs. shape (numbersOf j) (record { limit = first .next .limit; current = first .next .current; windows = vs }))
       (map-map (λ p. p .view) newSide (first .next .windows) ∙ map-id (first .next .windows))
-      ∙ start-shaped (numbersOf j) count limit (replicate count 0) before done
+      ∙ start-shaped (numbersOf j) count limit told-first before done
 
   pub opened-reached : Reached (opened j first)
   unfolding opened
   opened-reached = record {
     inShape = opened-shaped;
     each = λ w h.
-        subst⁻¹ (λ c. Inv j c w (sideAt w (opened j first))) opened-current
-        (subst⁻¹ (Inv j 0 w) (opened-side w (omega (arith, opened-count))) (new-inv j w));
+        let k : w < count = omega (arith, opened-count) in
+        subst⁻¹ (Inv j (first .next .current) w) (opened-side w k)
+        (keep-start silent (newSide noWindow) (new-taken j w) (opened-least w k));
   }
 
-  delivers : (steps : List Step) → Delivers count (opened j first) steps
+  delivers : (steps : List Step) → Delivers count silent (opened j first) steps
   delivers steps =
       let wd : World = opened j first in
       let reached : Reached (run wd steps) = reached-run wd steps opened-reached in
@@ -116,11 +121,11 @@ module _ (before : PlayerView) (j : List Entry) (count limit : ℕ) (done : firs
             (changes-bound 0 wd steps opened-reached (omega (arith, workLeft-most wd opened-reached)));
         finish = λ joined none w h.
             taken-all (run wd steps) reached none w (omega arith)
-            (joined-run wd steps w true opened-reached (omega (arith, opened-count))
-            (ap (λ p. isSuspended (p .view .condition)) (opened-side w h))
+            (joined-run wd steps w (speaks silent w) opened-reached (omega (arith, opened-count))
+            (ap (λ p. isSuspended (p .view .condition)) (opened-side w h) ∙ startedBy-away (speaks silent w) (length j) 0)
             ∙ ap not (joined w h));
       }
 
--- Demand 3, for every W, batch limit, journal and list of steps
+-- Demand 3, for every W, batch limit, set of silent windows, journal and list of steps
 pub demand-3 : Demand3
-demand-3 before j count limit steps done = delivers before j count limit done steps
+demand-3 before j count limit silent steps done = delivers before j count limit silent done steps

@@ -7,7 +7,8 @@ use lib.ListN.{length}
 use Rattle.journal.specs.declared.Entry.{Entry}
 use Rattle.rules.specs.declared.Term.{Term}
 use Rattle.rules.specs.Shape.{shape}
-use Rattle.rules.specs.Window.{isSuspended, wanted, mainAt, fetched, batchOf, freed, acknowledged, dropped, joined, started}
+use Rattle.rules.specs.Window.{isSuspended, wanted, mainAt, fetched, batchOf, freed, acknowledged, dropped, joined, startedBy}
+use Rattle.rules.specs.Rules.{speaks, saidBy}
 use Rattle.rules.specs.Offers.{Caught, SentOut, WrittenOff, AckTaken}
 use Rattle.delivery.specs.World.{Sent, Ack, Side, World, sideAt, numbersIn, playerIn, withView, withLines, withSide, takeFront, cleared, Step, main, catch, send, take, ack, late-ack, drop, join, start, append, step}
 use Rattle.delivery.specs.World as W
@@ -26,7 +27,7 @@ acksEarly (ack w) = false
 acksEarly (late-ack w t i) = false
 acksEarly (drop w) = false
 acksEarly (join w) = false
-acksEarly (start b) = false
+acksEarly (start b silent) = false
 acksEarly (append e) = false
 
 -- the work of one window: Catch, Send, Written, Take, which may ack any entry or not, or Ack answered 0
@@ -64,12 +65,13 @@ pub record WorksAt (s : Step) (wd : World) (w : ℕ) : Type 0 where
   pub world : step s wd .world ≡ withSide w after wd
   pub shaped : shape (numbersIn (step s wd .world)) (playerIn (step s wd .world)) ≡ true
 
--- Start answered 0: each window begins anew from its report, and `current` is the least of them
-pub record Restarted (wd wd′ : World) : Type 0 where
+-- Start answered 0: each window begins anew from its report, which is not below `current`, or is silent
+pub record Restarted (silent : ℕ) (wd wd′ : World) : Type 0 where
   pub journal : wd′ .journal ≡ wd .journal
   pub count : length (wd′ .sides) ≡ length (wd .sides)
-  pub least : (w : ℕ) → w < length (wd .sides) → wd′ .current ≤ lastOf (sideAt w wd)
-  pub each : (w : ℕ) → w < length (wd .sides) → sideAt w wd′ ≡ cleared (withView (started (lastOf (sideAt w wd))) (sideAt w wd))
+  pub least : (w : ℕ) → w < length (wd .sides) → speaks silent w ≡ true → wd′ .current ≤ lastOf (sideAt w wd)
+  pub each : (w : ℕ) → w < length (wd .sides) →
+      sideAt w wd′ ≡ cleared (withView (startedBy (length (wd .journal)) (saidBy silent w (lastOf (sideAt w wd)))) (sideAt w wd))
   pub shaped : shape (numbersIn wd′) (playerIn wd′) ≡ true
 
 -- what a step does
@@ -81,6 +83,6 @@ pub data Facts (s : Step) (wd : World) : Type 0 where
   joining : (w : ℕ) → s ≡ join w → isDone (step s wd .reply) ≡ true → w < length (wd .sides) → isSuspended (sideAt w wd .view .condition) ≡ true →
       step s wd .world ≡ withSide w (cleared (withView (joined (wd .current) (lastOf (sideAt w wd)) (sideAt w wd .view)) (sideAt w wd))) wd →
       shape (numbersIn (step s wd .world)) (playerIn (step s wd .world)) ≡ true → Facts s wd
-  starting : (b : ℕ) → s ≡ start b → isDone (step s wd .reply) ≡ true → Restarted wd (step s wd .world) → Facts s wd
+  starting : (b silent : ℕ) → s ≡ start b silent → isDone (step s wd .reply) ≡ true → Restarted silent wd (step s wd .world) → Facts s wd
   appending : (e : Entry) → s ≡ append e → isDone (step s wd .reply) ≡ true → length (wd .journal) < 65535 →
       step s wd .world ≡ record { journal = wd .journal ++ (e ∷ []); limit = wd .limit; current = wd .current; sides = wd .sides } → Facts s wd

@@ -7,27 +7,28 @@ use lib.ListN.{length, replicate}
 use lib.Dec.{leb}
 use Rattle.journal.specs.declared.Entry.{Entry}
 use Rattle.journal.specs.Entry.{entry4, numbersOf, entriesOf, entryAt, hasWindow, isFor}
+use Rattle.journal.specs.Own.{own}
 use Rattle.lists.specs.All.{all}
 use Rattle.lists.specs.Above.{above}
 use Rattle.record.specs.Record.{raceAfter, racesAfter, recordAfter, takeEntry, takeNumbers}
 use Rattle.rules.specs.declared.Term.{Term}
 use Rattle.rules.specs.View.{normal, WindowView, PlayerView}
 use Rattle.rules.specs.Shape.{windowShape, shape}
-use Rattle.rules.specs.Window.{check, enqueue, mainAt, fetched, catchIn, catchAt, readyIn, batchOf, launched, sendAt, writtenAt, ackAt, dropAt, joinAt}
-use Rattle.rules.specs.Rules.{operate, mapWindows, mainRule, catchRule, writtenRule, ackRule, dropRule, joinRule, sendRule, areReports, least, startRule}
+use Rattle.rules.specs.Window.{unheard, check, enqueue, mainAt, fetched, catchIn, catchAt, readyIn, batchOf, launched, sendAt, writtenAt, ackAt, dropAt, joinAt}
+use Rattle.rules.specs.Rules.{speaks, operate, mapWindows, mainRule, catchRule, writtenRule, ackRule, dropRule, joinRule, sendRule, saidFrom, areReports, spoken, least, startRule}
 use Rattle.delivery.specs.World.{World, sideAt, withViews, withPlayer, onLine, takeFront, Step, main, catch, written, send, take, ack, drop, join, start, Reply, answered, empty, step, run, replies, opened}
 use Rattle.delivery.specs.Same.{sameList, sameWindow, sameRace, sameRecord, sameEntry, sameSent, sameAck, sameSide, sameWorld}
-use Rattle.delivery.specs.Statement.{changes, joinedAfter}
+use Rattle.delivery.specs.Statement.{changes, joinedAfter, firstStart}
 
 -- to unfold this is to unfold the definitions that a run computes with
 unfoldable pub computed : Unit {0}
 unfolding
     replies run step opened withViews withPlayer onLine takeFront
-    startRule areReports least mainRule catchRule writtenRule ackRule dropRule joinRule sendRule operate mapWindows
+    startRule saidFrom areReports spoken least mainRule catchRule writtenRule ackRule dropRule joinRule sendRule operate mapWindows
     shape windowShape all
     check enqueue mainAt fetched catchIn catchAt readyIn batchOf launched sendAt writtenAt ackAt dropAt joinAt above
     raceAfter racesAfter recordAfter takeEntry takeNumbers
-    numbersOf entriesOf entryAt hasWindow isFor
+    numbersOf entriesOf entryAt hasWindow isFor own
 computed = tt
 
 -- to unfold this is to unfold the definitions that changes are counted with
@@ -49,9 +50,13 @@ shownAt w wd = record { last = sideAt w wd .record′ .last .0; count = sideAt w
 abbrev pub nobody : PlayerView
 nobody = record { limit = 0; current = 0; windows = [] }
 
--- a run's beginning: W windows, batch limit 2
+-- a run's beginning: W windows, batch limit 2, and a set of silent windows
+abbrev pub openedWithout : ℕ → List Entry → ℕ → World
+openedWithout silent j count = opened j (firstStart nobody j count 2 silent)
+
+-- no window is silent
 abbrev pub openedWith : List Entry → ℕ → World
-openedWith j count = opened j (startRule (numbersOf j) count 2 (replicate count 0) nobody)
+openedWith j count = openedWithout 0 j count
 
 abbrev pub term : ℕ → Term
 term n = record { 0 = n }
@@ -83,7 +88,7 @@ drop-before-ack = record { answers = refl; window0 = refl; acknowledged = refl }
 -- the player starts anew in the middle of a batch: the second entry was on the line and is sent again, and taken once
 abbrev pub startSteps : List Step
 startSteps =
-    main 1 ∷ main 2 ∷ send 0 room ∷ take 0 false ∷ start 2 ∷ take 0 false ∷ main 1 ∷ main 2 ∷ send 0 room ∷ take 0 false ∷ ack 0 ∷ []
+    main 1 ∷ main 2 ∷ send 0 room ∷ take 0 false ∷ start 2 0 ∷ take 0 false ∷ main 1 ∷ main 2 ∷ send 0 room ∷ take 0 false ∷ ack 0 ∷ []
 
 pub record StartInBatch : Type 0 where
   pub answers : replies (openedWith afternoon 2) startSteps ≡
@@ -115,6 +120,74 @@ pub record AckInBatch : Type 0 where
 pub ack-in-batch : AckInBatch
 unfolding computed
 ack-in-batch = record { answers = refl; early = refl; out = refl; resumed = refl; window0 = refl; acknowledged = refl; none = refl }
+
+-- Window 1 is silent at the first Start, and nothing is sent to it. Window 0 takes all of its own entries; then window 1 joins, fetches the
+-- journal from its beginning, and takes all of its own.
+abbrev pub window1Silent : World
+window1Silent = openedWithout 2 afternoon 2
+
+abbrev pub stepsBefore : List Step
+stepsBefore = main 1 ∷ main 2 ∷ main 3 ∷ send 1 room ∷ take 1 false ∷ send 0 room ∷ take 0 false ∷ take 0 false ∷ ack 0 ∷ []
+
+abbrev pub lateSteps : List Step
+lateSteps =
+    join 1 ∷ catch 1 (term 2) 1 ∷ catch 1 (term 2) 2 ∷ catch 1 (term 2) 3 ∷ send 1 room ∷ take 1 false ∷ take 1 false ∷ ack 1 ∷ []
+
+pub record SilentAtStart : Type 0 where
+  pub held : sideAt 1 window1Silent .view ≡ unheard 3
+  pub read : window1Silent .current ≡ 0
+  pub answers : replies window1Silent stepsBefore ≡ done ∷ done ∷ done ∷ answered 3 ∷ empty ∷ done ∷ done ∷ done ∷ done ∷ []
+  pub others : sideAt 0 (run window1Silent stepsBefore) .taken ≡ own afternoon 0
+  pub apart : joinedAfter 1 (speaks 2 1) window1Silent stepsBefore ≡ false
+  pub late : replies (run window1Silent stepsBefore) lateSteps ≡ done ∷ done ∷ done ∷ done ∷ done ∷ done ∷ done ∷ done ∷ []
+  pub joins : joinedAfter 1 false (run window1Silent stepsBefore) lateSteps ≡ true
+  pub window1 : sideAt 1 (run (run window1Silent stepsBefore) lateSteps) .taken ≡ own afternoon 1
+
+pub silent-at-start : SilentAtStart
+unfolding computed counted
+silent-at-start = record {
+  held = refl;
+  read = refl;
+  answers = refl;
+  others = refl;
+  apart = refl;
+  late = refl;
+  joins = refl;
+  window1 = refl;
+}
+
+-- all windows are silent: `current` is L, and there is nothing to read; a window that joins fetches all
+pub record AllSilent : Type 0 where
+  pub read : openedWithout 3 afternoon 2 .current ≡ 3
+  pub answers : replies (openedWithout 3 afternoon 2) (main 1 ∷ main 4 ∷ lateSteps) ≡
+      answered 4 ∷ answered 4 ∷ done ∷ done ∷ done ∷ done ∷ done ∷ done ∷ done ∷ done ∷ []
+  pub window1 : sideAt 1 (run (openedWithout 3 afternoon 2) lateSteps) .taken ≡ own afternoon 1
+
+pub all-silent : AllSilent
+unfolding computed
+all-silent = record { read = refl; answers = refl; window1 = refl }
+
+-- The player starts anew in the middle of a batch, and the window that was taking it is silent: its line is empty, and it is not joined. It
+-- joins from what it has taken, is sent the second entry again, and takes it once.
+abbrev pub silentSteps : List Step
+silentSteps = main 1 ∷ main 2 ∷ send 0 room ∷ take 0 false ∷ start 2 1 ∷ []
+
+abbrev pub againSteps : List Step
+againSteps =
+    take 0 false ∷ main 1 ∷ main 2 ∷ main 3 ∷ join 0 ∷ catch 0 (term 2) 2 ∷ catch 0 (term 2) 3 ∷ send 0 room ∷ take 0 false ∷ ack 0 ∷ []
+
+pub record SilentInBatch : Type 0 where
+  pub answers : replies (openedWith afternoon 2) silentSteps ≡ done ∷ done ∷ done ∷ done ∷ done ∷ []
+  pub held : sideAt 0 (run (openedWith afternoon 2) silentSteps) .view ≡ unheard 3
+  pub apart : joinedAfter 0 true (openedWith afternoon 2) silentSteps ≡ false
+  pub other : joinedAfter 1 true (openedWith afternoon 2) silentSteps ≡ true
+  pub again : replies (run (openedWith afternoon 2) silentSteps) againSteps ≡
+      empty ∷ done ∷ done ∷ done ∷ done ∷ done ∷ done ∷ done ∷ done ∷ done ∷ []
+  pub window0 : sideAt 0 (run (run (openedWith afternoon 2) silentSteps) againSteps) .taken ≡ own afternoon 0
+
+pub silent-in-batch : SilentInBatch
+unfolding computed counted
+silent-in-batch = record { answers = refl; held = refl; apart = refl; other = refl; again = refl; window0 = refl }
 
 -- Two states that no run reaches. Batches that do not rise: what is above the index stays, in order, wherever it stands. A sent index below
 -- the acknowledged one: an index between them is not taken, though a batch ends there.

@@ -22,7 +22,7 @@ use Rattle.delivery.specs.World as W
 use Rattle.delivery.specs.SameLaws.{seen, WorldIs, sameWorld-equal}
 use Rattle.delivery.specs.Statement.{isWork, NoneCan}
 use Rattle.delivery.specs.Invariant.{Queues, Inv, Reached, lastOf, lineEntries}
-use Rattle.delivery.specs.Lines.{unacked-none}
+use Rattle.delivery.specs.Lines.{line-here, unacked-none}
 use Rattle.delivery.specs.Queued.{isEmpty-append}
 use Rattle.delivery.specs.Measure.{viewWork, sideWork, worked-lowers}
 use Rattle.delivery.specs.Worlds.{entries-in, count-in, window-in, windows-in, withSide-here}
@@ -65,11 +65,12 @@ map-nil : (j : List Entry) (xs : List ℕ) → [] ≡ map (placedAt j) xs → xs
 map-nil j [] e = refl
 map-nil j (x ∷ xs) e = absurd (let z : _≡_ {A = ℕ} 0 1 = cc in omega arith)
 
--- a window that has all on the line taken, and nothing due after sent, has taken all
-taken-whole : {j : List Entry} {c w : ℕ} {p : Side} → Inv j c w p → p .line ≡ [] → due j w (p .view .sent) (length j) ≡ [] →
-    p .taken ≡ own j w
-taken-whole {j} {c} {w} {p} inv line queued =
-    let on-line : due j w (lastOf p) (p .view .sent) ≡ [] = map-nil j _ (sym (ap lineEntries line) ∙ inv .flight .lineIs) in
+-- a window, not Suspended, that has all on the line taken, and nothing due after sent, has taken all
+taken-whole : {j : List Entry} {c w : ℕ} {p : Side} → Inv j c w p → isSuspended (p .view .condition) ≡ false → p .line ≡ [] →
+    due j w (p .view .sent) (length j) ≡ [] → p .taken ≡ own j w
+taken-whole {j} {c} {w} {p} inv here line queued =
+    let on-line : due j w (lastOf p) (p .view .sent) ≡ []
+    = map-nil j _ (sym (ap lineEntries line) ∙ line-here (inv .flight .lineIs) here) in
     let split : due j w 0 (length j) ≡ due j w 0 (lastOf p)
     = due-split j w 0 (lastOf p) (length j) (omega arith) (inv .taken .lastIn)
     ∙ ap (λ l. due j w 0 (lastOf p) ++ l)
@@ -174,7 +175,7 @@ module _ (wd : World) (r : Reached wd) (none : NoneCan wd) where
     pub taken-all : sideAt w wd .taken ≡ own (wd .journal) w
     taken-all =
         let limit = shaped (numbersIn wd) (playerIn wd) (r .inShape) .limitSome in
-        taken-whole (r .each w h) (line-empty (sideAt w wd .line) refl)
+        taken-whole (r .each w h) here (line-empty (sideAt w wd .line) refl)
         (rw (← all-read)
         (none-due (wd .journal) (wd .current) w (v .acked) (v .sent) (wd .limit) limit v (v .normalQueue) (v .catchQueue) (v .condition)
         (r .each w h .queues) here none-ready none-fetched))

@@ -44,11 +44,15 @@ abbrev pub LineTerms : Term → List Sent → Type 0
 LineTerms t [] = Unit {0}
 LineTerms t (s ∷ l) = (s .term ≡ t) × LineTerms t l
 
--- what is due from last to sent is on the line
-pub record InFlight (j : List Entry) (w last sent : ℕ) (t : Term) (line : List Sent) : Type 0 where
+-- What is due from last to sent is on the line. Of a Suspended window (`away`) there may be nothing: of one that was silent at a Start.
+pub data LineHas (j : List Entry) (w : ℕ) (away : Bool) (last sent : ℕ) (line : List Sent) : Type 0 where
+  whole : lineEntries line ≡ map (placedAt j) (due j w last sent) → LineHas j w away last sent line
+  nothing : away ≡ true → line ≡ [] → LineHas j w away last sent line
+
+pub record InFlight (j : List Entry) (w : ℕ) (away : Bool) (t : Term) (last sent : ℕ) (line : List Sent) : Type 0 where
   pub lastSent : last ≤ sent
   pub sentIn : sent ≤ length j
-  pub lineIs : lineEntries line ≡ map (placedAt j) (due j w last sent)
+  pub lineIs : LineHas j w away last sent line
   pub lineTerms : LineTerms t line
 
 -- ------------------------------------------------------------------------
@@ -129,7 +133,7 @@ QueuesOf j current w v s = Queues j current w (v .acked) (v .sent) (v .normalQue
 -- a window's side of a reachable world
 pub record Inv (j : List Entry) (current w : ℕ) (p : Side) : Type 0 where
   pub taken : Taken j w (p .record′) (p .taken)
-  pub flight : InFlight j w (lastOf p) (p .view .sent) (p .view .term) (p .line)
+  pub flight : InFlight j w (isSuspended (p .view .condition)) (p .view .term) (lastOf p) (p .view .sent) (p .line)
   pub unacked :
       Unacknowledged j w (isSuspended (p .view .condition)) (p .view .term) (p .view .acked) (lastOf p) (p .view .sent) (p .view .batches)
       (p .line) (p .back)

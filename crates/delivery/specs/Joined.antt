@@ -1,6 +1,7 @@
--- A window is joined, by the steps that were made, exactly if it is not Suspended; and the number of windows never changes.
+-- A window is joined, by the steps that were made, exactly if it is not Suspended, and else it can join; and the number of windows never
+-- changes.
 use Prim.Native.Nat.{ℕ, suc, _+_, _≤_, _<_}
-use mathlib.Core.Path.{_≡_, refl, sym, ap, _∙_}
+use mathlib.Core.Path.{_≡_, refl, sym, ap, subst⁻¹, _∙_}
 use mathlib.Core.Logic.{⊎-elim}
 use mathlib.Core.List.{List, [], _∷_, _++_}
 use mathlib.Core.Bool.{Bool, true, false, not, cond}
@@ -13,14 +14,15 @@ use Rattle.lists.specs.Cases.{le-or-lt}
 use Rattle.lists.specs.Set.{getD-set-each}
 use Rattle.rules.specs.View.{Condition, normal, fetching, completed, WindowView}
 use Rattle.rules.specs.Shape.{isEmpty}
-use Rattle.rules.specs.Window.{isSuspended, mainAt, fetched, batchOf}
-use Rattle.rules.specs.Offers.{ConditionAfter, batchOf-condition, oneIf, mainAt-either, fetched-more, fetched-last, launched-is}
+use Rattle.rules.specs.Window.{isSuspended, isReport, mainAt, fetched, batchOf, told, silence, startedBy}
+use Rattle.rules.specs.Rules.{windowAt, speaks}
+use Rattle.rules.specs.Offers.{ConditionAfter, batchOf-condition, oneIf, mainAt-either, fetched-more, fetched-last, launched-is, joinRule-can}
 use Rattle.rules.specs.Offers as B
-use Rattle.delivery.specs.World.{Side, World, noSide, sideAt, withSide, takeFront, Step, main, catch, written, send, ack, late-ack, drop, join, start, append, Reply, step, run}
+use Rattle.delivery.specs.World.{Side, World, noSide, sideAt, numbersIn, playerIn, withSide, takeFront, Step, main, catch, written, send, ack, late-ack, drop, join, start, append, Reply, answered, step, run}
 use Rattle.delivery.specs.World as W
 use Rattle.delivery.specs.Statement.{begins, joinedBy, joinedAfter}
 use Rattle.delivery.specs.Invariant.{Reached, lastOf}
-use Rattle.delivery.specs.Worlds.{withSide-count}
+use Rattle.delivery.specs.Worlds.{entries-in, window-in, windows-in, withSide-count}
 use Rattle.delivery.specs.Effects.{Worked, Work, stays, mains, works, Facts, working, dropping, joining, starting, appending}
 use Rattle.delivery.specs.Effects as E
 use Rattle.delivery.specs.SteppedAll.{step-facts}
@@ -41,7 +43,7 @@ step-count wd s r = by (step-facts wd (r .inShape) s)
     by (working quiet work) = work-count wd _ work
     by (dropping w is done h e sh) = ap (λ x. length (x .sides)) e ∙ withSide-count w _ wd
     by (joining w is done h away e sh) = ap (λ x. length (x .sides)) e ∙ withSide-count w _ wd
-    by (starting b is done m) = m .count
+    by (starting b silent is done m) = m .count
     by (appending e is done h is′) = ap (λ x. length (x .sides)) is′
 
 pub run-count : (wd : World) (ss : List Step) → Reached wd → length (run wd ss .sides) ≡ length (wd .sides)
@@ -111,12 +113,17 @@ joined-quiet w (ack v) r b e = refl
 joined-quiet w (late-ack v t i) r b e = refl
 joined-quiet w (drop v) r b e = rw e
 joined-quiet w (join v) r b e = rw e
-joined-quiet w (start l) r b e = rw e
+joined-quiet w (start l silent) r b e = rw e
 joined-quiet w (append x) r b e = refl
 
 joined-condition : (t : Bool) (n c : ℕ) → isSuspended (cond t (fetching n c) normal) ≡ false
 joined-condition true n c = refl
 joined-condition false n c = refl
+
+-- a window that speaks at a Start is joined by it, and a silent one is not
+pub startedBy-away : (b : Bool) (l r : ℕ) → isSuspended (startedBy l (cond b (told r) silence) .condition) ≡ not b
+startedBy-away true l r = refl
+startedBy-away false l r = refl
 
 joined-step : (wd : World) (s : Step) (w : ℕ) (b : Bool) → Reached wd → w < length (wd .sides) → away (sideAt w wd) ≡ not b →
     away (sideAt w (step s wd .world)) ≡ not (joinedBy w s (step s wd .reply) b)
@@ -139,7 +146,8 @@ joined-step wd s w b r h is = by (step-facts wd (r .inShape) s)
         replaced-away wd _ v w _ k is′ after
         (rw (← step-is (join v) e v, done, eq-eqb v v refl) (joined-condition (ltb (lastOf (sideAt v wd)) (wd .current)) _ (wd .current)))
         (λ n. rw (← step-is (join v) e w, done, ne-eqb v w (λ m. n (sym m))) is)
-    by (starting l e done m) = ap away (m .each w h) ∙ rw (← step-is (start l) e w, done)
+    by (starting l silent e done m) =
+        ap away (m .each w h) ∙ rw (← step-is (start l silent) e w, done) (startedBy-away (speaks silent w) _ _)
     by (appending x e done k is′) = ap (λ y. away (sideAt w y)) is′ ∙ is ∙ ap not (step-is (append x) e w)
 
 pub joined-run : (wd : World) (ss : List Step) (w : ℕ) (b : Bool) → Reached wd → w < length (wd .sides) → away (sideAt w wd) ≡ not b →
@@ -149,3 +157,20 @@ joined-run wd [] w b r h is = is
 joined-run wd (s ∷ ss) w b r h is =
     joined-run (step s wd .world) ss w (joinedBy w s (step s wd .reply) b) (reached-step wd s r) (omega (arith, step-count wd s r))
     (joined-step wd s w b r h is)
+
+-- ------------------------------------------------------------------------
+-- a Join
+
+-- A result to be read: in every world of a run a Suspended window can join, whether it was dropped or silent, while its term can go up.
+pub away-joins : (wd : World) → Reached wd → (w : ℕ) → w < length (wd .sides) → isSuspended (sideAt w wd .view .condition) ≡ true →
+    sideAt w wd .view .term .0 < 4294967295 → step (join w) wd .reply ≡ answered 0
+unfolding step
+away-joins wd r w h gone term =
+    let inv = r .each w h in
+    let last : ℕ = lastOf (sideAt w wd) in
+    let held : (P : WindowView → Type 0) → P (sideAt w wd .view) → P (windowAt w (playerIn wd)) = λ P. subst⁻¹ P (window-in w wd) in
+    ap answered
+    (joinRule-can (numbersIn wd) w (playerIn wd) (r .inShape) (omega (arith, windows-in wd)) last
+    (held (λ v. isSuspended (v .condition) ≡ true) gone) (held (λ v. v .term .0 < 4294967295) term)
+    (held (λ v. v .acked ≤ last) (inv .unacked .ackedLast)) (held (λ v. last ≤ v .sent) (inv .flight .lastSent))
+    (ap (λ j. isReport j w last) (entries-in wd) ∙ inv .taken .lastOwn))

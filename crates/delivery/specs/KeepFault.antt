@@ -3,7 +3,7 @@ use Prim.Native.Nat.{ℕ, _+_, _-_, _≤_, _<_}
 use mathlib.Core.Path.{_≡_, refl, sym, ap, ap₂, _∙_}
 use mathlib.Core.Logic.{⊎-elim}
 use mathlib.Core.List.{List, [], _∷_, _++_, map}
-use mathlib.Core.Bool.{true, false, _||_, true≢false, false≢true}
+use mathlib.Core.Bool.{Bool, true, false, cond, _||_, true≢false, false≢true}
 use native.Mathlib.Omega.{arith}
 use native.Mathlib.Nat.{le-refl}
 use borrow.Author.Tests.{lt-ltb, le-ltb}
@@ -16,10 +16,13 @@ use Rattle.lists.specs.Cases.{le-or-lt, and-left, and-right, and-intro}
 use Rattle.lists.specs.All.{all}
 use Rattle.journal.specs.Due.{due, due-empty, due-rising, due-append}
 use Rattle.lists.specs.Rising.{Rising}
+use Rattle.rules.specs.declared.Term.{Term}
 use Rattle.rules.specs.View.{Condition, normal, fetching, completed, suspended, WindowView}
-use Rattle.rules.specs.Window.{isSuspended, dropped, joined, started}
-use Rattle.delivery.specs.World.{Side, withView, cleared}
-use Rattle.delivery.specs.Invariant.{Taken, Queues, QueuesOf, Inv, lastOf, backIndices}
+use Rattle.rules.specs.Window.{isSuspended, dropped, joined, told, silence, started, unheard, startedBy}
+use Rattle.rules.specs.Rules.{speaks, saidBy}
+use Rattle.delivery.specs.World.{Sent, Side, withView, cleared}
+use Rattle.delivery.specs.Invariant.{Taken, LineHas, whole, nothing, Unacknowledged, Queues, QueuesOf, Inv, lastOf, backIndices}
+use Rattle.delivery.specs.Lines.{line-away}
 use Rattle.delivery.specs.Queued.{holds-none, holds-journal}
 
 -- ------------------------------------------------------------------------
@@ -28,7 +31,12 @@ use Rattle.delivery.specs.Queued.{holds-none, holds-journal}
 pub keep-drop : {j : List Entry} {c w : ℕ} {p : Side} → Inv j c w p → Inv j c w (withView (dropped (p .view)) p)
 keep-drop inv = record {
   taken = inv .taken;
-  flight = inv .flight;
+  flight = record {
+    lastSent = inv .flight .lastSent;
+    sentIn = inv .flight .sentIn;
+    lineIs = line-away (inv .flight .lineIs);
+    lineTerms = inv .flight .lineTerms;
+  };
   unacked = record {
     ackedLast = inv .unacked .ackedLast;
     backTerms = inv .unacked .backTerms;
@@ -43,37 +51,57 @@ keep-drop inv = record {
 }
 
 -- ------------------------------------------------------------------------
--- Join and Start: both ways of the line are empty, and acknowledged and sent are the record's last index
+-- Join and Start: both ways of the line are empty, and acknowledged and sent are the record's last index; a window silent at Start is away
+
+-- nothing on the line, no ack on the way back, and no batch unacknowledged
+unacked-cleared : {j : List Entry} {w : ℕ} {away : Bool} {t : Term} {acked last sent : ℕ} {batches : List ℕ} → acked ≤ last → batches ≡ [] →
+    Unacknowledged j w away t acked last sent batches [] []
+unfolding all
+unacked-cleared low none = record {
+  ackedLast = low;
+  backTerms = tt;
+  backOwn = refl;
+  backRises = tt;
+  batchesRise = rw none tt;
+  batchesOut = λ x h. absurd (false≢true (rw none at h));
+  noBatches = λ h. none;
+}
 
 -- a window that begins anew from what it has taken
-pub begun : {j : List Entry} {c w : ℕ} (p : Side) (v : WindowView) → Taken j w (p .record′) (p .taken) → v .acked ≡ lastOf p →
+begun : {j : List Entry} {c w : ℕ} (p : Side) (v : WindowView) → Taken j w (p .record′) (p .taken) → v .acked ≡ lastOf p →
     v .sent ≡ lastOf p → v .busy ≡ false → v .batches ≡ [] → QueuesOf j c w v (v .condition) → Inv j c w (cleared (withView v p))
-unfolding all
 begun {j} {c} {w} p v taken acked sent free none queues = record {
   taken = taken;
   flight = record {
     lastSent = omega arith;
     sentIn = omega (arith, taken .lastIn);
-    lineIs = ap (map (placedAt j)) (sym (due-empty j w (lastOf p) (v .sent) (omega arith)));
+    lineIs = whole (ap (map (placedAt j)) (sym (due-empty j w (lastOf p) (v .sent) (omega arith))));
     lineTerms = tt;
   };
-  unacked = record {
-    ackedLast = omega arith;
-    backTerms = tt;
-    backOwn = refl;
-    backRises = tt;
-    batchesRise = rw none tt;
-    batchesOut = λ x h. absurd (false≢true (rw none at h));
-    noBatches = λ h. none;
-  };
+  unacked = unacked-cleared (omega arith) none;
   queues = queues;
   busySent = λ h. absurd (true≢false (sym h ∙ free));
 }
 
-pub keep-start : {j : List Entry} {c c′ w : ℕ} {p : Side} → Inv j c w p → c′ ≤ lastOf p →
-    Inv j c′ w (cleared (withView (started (lastOf p)) p))
-keep-start {p = p} inv h =
-    begun p (started (lastOf p)) (inv .taken) refl refl refl refl (record { ahead = omega arith; normalHas = holds-none h })
+-- a window that is silent, with nothing on its line
+silenced : {j : List Entry} {c w : ℕ} (p : Side) → Taken j w (p .record′) (p .taken) → Inv j c w (cleared (withView (unheard (length j)) p))
+silenced {j} p taken = record {
+  taken = taken;
+  flight = record { lastSent = taken .lastIn; sentIn = le-refl (length j); lineIs = nothing refl refl; lineTerms = tt };
+  unacked = unacked-cleared (omega arith) refl;
+  queues = record { normalIs = refl; catchIs = refl };
+  busySent = λ h. absurd (false≢true h);
+}
+
+-- a window as Start leaves it: `current` is not above the report of one that speaks
+pub keep-start : {j : List Entry} {c w : ℕ} (silent : ℕ) (p : Side) → Taken j w (p .record′) (p .taken) →
+    (speaks silent w ≡ true → c ≤ lastOf p) → Inv j c w (cleared (withView (startedBy (length j) (saidBy silent w (lastOf p))) p))
+keep-start {j} {c} {w} silent p taken low = by (speaks silent w) low
+  where
+    by : (b : Bool) → (b ≡ true → c ≤ lastOf p) → Inv j c w (cleared (withView (startedBy (length j) (cond b (told (lastOf p)) silence)) p))
+    by true h =
+        begun p (started (lastOf p)) taken refl refl refl refl (record { ahead = omega arith; normalHas = holds-none (h refl) })
+    by false h = silenced p taken
 
 pub keep-join : {j : List Entry} {c w : ℕ} {p : Side} → Inv j c w p → isSuspended (p .view .condition) ≡ true →
     Inv j c w (cleared (withView (joined c (lastOf p) (p .view)) p))
@@ -117,6 +145,11 @@ module _ (j : List Entry) (e : Entry) (w : ℕ) where
   due-placed a b h =
       sym (placed-append a b (due j w a b) h (due-rising j w a b)) ∙ ap (map (placedAt longer)) (sym (due-append j e w a b h))
 
+  line-append : {away : Bool} {last sent : ℕ} {line : List Sent} → sent ≤ length j → LineHas j w away last sent line →
+      LineHas longer w away last sent line
+  line-append {last = last} {sent = sent} h (whole is) = whole (is ∙ due-placed last sent h)
+  line-append h (nothing gone none) = nothing gone none
+
   owned-append : (a b : ℕ) (xs : List ℕ) → b ≤ length j → Rising a xs b → all (isFor j w) xs ≡ true → all (isFor longer w) xs ≡ true
   unfolding all
   owned-append a b [] h r own = refl
@@ -153,7 +186,7 @@ module _ (j : List Entry) (e : Entry) (w : ℕ) where
     flight = record {
       lastSent = inv .flight .lastSent;
       sentIn = simp length-append (omega (arith, inv .flight .sentIn));
-      lineIs = inv .flight .lineIs ∙ due-placed (lastOf p) (p .view .sent) (inv .flight .sentIn);
+      lineIs = line-append (inv .flight .sentIn) (inv .flight .lineIs);
       lineTerms = inv .flight .lineTerms;
     };
     unacked = record {

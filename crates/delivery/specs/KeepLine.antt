@@ -21,8 +21,8 @@ use Rattle.rules.specs.View.{Condition, normal, fetching, completed, suspended,
 use Rattle.rules.specs.Window.{freed, acknowledged}
 use Rattle.rules.specs.Offers.{acknowledged-leaves, acknowledged-rises, AckTaken}
 use Rattle.delivery.specs.World.{Sent, Ack, Side, withView, withLines, takeFront}
-use Rattle.delivery.specs.Invariant.{Taken, InFlight, Unacknowledged, Queues, QueuesOf, Inv, lastOf, backIndices, lineEntries, endsOf, BackTerms}
-use Rattle.delivery.specs.Lines.{backTerms-append}
+use Rattle.delivery.specs.Invariant.{Taken, whole, InFlight, Unacknowledged, Queues, QueuesOf, Inv, lastOf, backIndices, lineEntries, endsOf, BackTerms}
+use Rattle.delivery.specs.Lines.{backTerms-append, line-some}
 
 -- ------------------------------------------------------------------------
 -- Written
@@ -88,9 +88,9 @@ pub record Front (j : List Entry) (w last sent : ℕ) (s : Sent) (rest : List Se
   pub placedIs : s .placed ≡ placedAt j (s .placed .index)
   pub restIs : lineEntries rest ≡ map (placedAt j) others
 
-pub front : {j : List Entry} {w last sent : ℕ} {t : Term} {s : Sent} {rest : List Sent} → InFlight j w last sent t (s ∷ rest) →
-    Front j w last sent s rest
-front {j} {w} {last} {sent} {t} {s} {rest} flight = by (due j w last sent) refl (flight .lineIs)
+pub front : {j : List Entry} {w last sent : ℕ} {away : Bool} {t : Term} {s : Sent} {rest : List Sent} →
+    InFlight j w away t last sent (s ∷ rest) → Front j w last sent s rest
+front {j} {w} {last} {sent} {s = s} {rest = rest} flight = by (due j w last sent) refl (line-some (flight .lineIs))
   where
     by : (l : List ℕ) → due j w last sent ≡ l → s .placed ∷ lineEntries rest ≡ map (placedAt j) l → Front j w last sent s rest
     by [] d h = absurd (let z : _≡_ {A = ℕ} 0 1 = cc in omega arith)
@@ -135,12 +135,12 @@ module _ {j : List Entry} {w sent : ℕ} {s : Sent} {rest : List Sent} where
         recordIs = ap (λ r. takeEntry (s .placed) r .record′) (is .recordIs) ∙ sym (takeAll-snoc taken (s .placed) newRecord);
       }
 
-  flight-less : {last : ℕ} {t : Term} → InFlight j w last sent t (s ∷ rest) → Front j w last sent s rest →
-      InFlight j w (s .placed .index) sent t rest
+  flight-less : {last : ℕ} {away : Bool} {t : Term} → InFlight j w away t last sent (s ∷ rest) → Front j w last sent s rest →
+      InFlight j w away t (s .placed .index) sent rest
   flight-less is f = record {
     lastSent = f .begins .within;
     sentIn = is .sentIn;
-    lineIs = f .restIs ∙ ap (map (placedAt j)) (sym (f .begins .rest));
+    lineIs = whole (f .restIs ∙ ap (map (placedAt j)) (sym (f .begins .rest)));
     lineTerms = is .lineTerms .1;
   }
 

@@ -19,34 +19,31 @@ use Rattle.rules.specs.Shape.{isEmpty}
 use Rattle.rules.specs.Window.{isSuspended, requeue, Batch, batchOf, launched}
 use Rattle.rules.specs.Offers.{isEmpty-some, isEmpty-drop, batchOf-normal, batchOf-fetching, batchOf-more, batchOf-all, launched-is, SentOut}
 use Rattle.delivery.specs.World.{Sent, Ack, Side, withView, withLines, onLine}
-use Rattle.delivery.specs.Invariant.{InFlight, Unacknowledged, Holds, Queues, Inv, backIndices, endsOf}
-use Rattle.delivery.specs.Lines.{lineTerms-append, endsOf-append, onLine-entries, onLine-terms, onLine-ends}
+use Rattle.delivery.specs.Invariant.{lastOf, lineEntries, whole, Unacknowledged, Holds, Queues, Inv, backIndices, endsOf}
+use Rattle.delivery.specs.Lines.{lineTerms-append, endsOf-append, onLine-entries, onLine-terms, onLine-ends, line-here}
 use Rattle.delivery.specs.Queued.{HoldsCut, holds-append, holds-cut, withQueues}
 
 -- the side after a batch: the window as Send leaves it, and the batch on the line
 abbrev pub launchedSide : List Entry → Batch → Side → Side
 launchedSide j b p = withLines (p .line ++ onLine j (p .view .term) (b .indices)) (p .back) (withView (launched b) p)
 
--- Send keeps the invariant, and it sends something
+-- Send keeps the invariant; it sends something; and what is then due up to sent is on the line
 pub record Launched (j : List Entry) (c w : ℕ) (b : Batch) (p : Side) : Type 0 where
   pub inv : Inv j c w (launchedSide j b p)
   pub up : p .view .sent < lastOr 0 (b .indices)
+  pub line : lineEntries (p .line ++ onLine j (p .view .term) (b .indices)) ≡ map (placedAt j) (due j w (lastOf p) (lastOr 0 (b .indices)))
 
 -- ------------------------------------------------------------------------
 -- The line and the unacknowledged batches, each with one batch more
 
-flight-more : {j : List Entry} {w last sent l : ℕ} {t : Term} {line : List Sent} {xs : List ℕ} → InFlight j w last sent t line →
-    Holds j w sent l xs → sent ≤ l → l ≤ length j → InFlight j w last l t (line ++ onLine j t xs)
-flight-more {j} {w} {last} {sent} {l} {t} {line} {xs} flight has h k = record {
-  lastSent = omega (arith, flight .lastSent);
-  sentIn = k;
-  lineIs =
-      map-append (λ s. s .placed) line (onLine j t xs)
-      ∙ ap₂ (λ a b. a ++ b) (flight .lineIs) (onLine-entries j t xs ∙ ap (map (placedAt j)) (has .own))
-      ∙ sym (map-append (placedAt j) (due j w last sent) (due j w sent l))
-      ∙ ap (map (placedAt j)) (sym (due-split j w last sent l (flight .lastSent) h));
-  lineTerms = lineTerms-append t line (onLine j t xs) (flight .lineTerms) (onLine-terms j t xs);
-}
+line-more : {j : List Entry} {w last sent l : ℕ} (t : Term) (line : List Sent) (xs : List ℕ) →
+    lineEntries line ≡ map (placedAt j) (due j w last sent) → Holds j w sent l xs → last ≤ sent → sent ≤ l →
+    lineEntries (line ++ onLine j t xs) ≡ map (placedAt j) (due j w last l)
+line-more {j} {w} {last} {sent} {l} t line xs is has low h =
+    map-append (λ s. s .placed) line (onLine j t xs)
+    ∙ ap₂ (λ a b. a ++ b) is (onLine-entries j t xs ∙ ap (map (placedAt j)) (has .own))
+    ∙ sym (map-append (placedAt j) (due j w last sent) (due j w sent l))
+    ∙ ap (map (placedAt j)) (sym (due-split j w last sent l low h))
 
 unacked-more : {j : List Entry} {w : ℕ} {t : Term} {acked last sent : ℕ} {batches : List ℕ} {line : List Sent} {back : List Ack}
     (xs : List ℕ) → isEmpty xs ≡ false → last ≤ sent → sent < lastOr 0 xs → Unacknowledged j w false t acked last sent batches line back →
@@ -77,15 +74,25 @@ module _ (j : List Entry) (c w : ℕ) (read : c ≤ length j) where
       Launched j c w (record { indices = xs; rest = requeue n q s (p .view) }) p
   launch {p} b xs ys n q s inv here here′ k some has queues =
       let cut : HoldsCut j w (p .view .sent) b xs ys = holds-cut xs some has in
+      let flight = inv .flight in
+      let more : lineEntries (p .line ++ onLine j (p .view .term) xs) ≡ map (placedAt j) (due j w (lastOf p) (lastOr 0 xs))
+      = line-more (p .view .term) (p .line) xs (line-here (flight .lineIs) here) (cut .before) (flight .lastSent)
+      (omega (arith, cut .up)) in
       record {
         up = cut .up;
+        line = more;
         inv =
             subst⁻¹ (λ v. Inv j c w (withLines (p .line ++ onLine j (p .view .term) xs) (p .back) (withView v p)))
             (launched-is xs (requeue n q s (p .view)))
             (record {
               taken = inv .taken;
-              flight = flight-more (inv .flight) (cut .before) (omega (arith, cut .up)) (omega (arith, cut .within));
-              unacked = rw here′ (unacked-more xs some (inv .flight .lastSent) (cut .up) (rw here at (inv .unacked)));
+              flight = record {
+                lastSent = omega (arith, flight .lastSent, cut .up);
+                sentIn = omega (arith, cut .within);
+                lineIs = whole more;
+                lineTerms = lineTerms-append (p .view .term) (p .line) _ (flight .lineTerms) (onLine-terms j (p .view .term) xs);
+              };
+              unacked = rw here′ (unacked-more xs some (flight .lastSent) (cut .up) (rw here at (inv .unacked)));
               queues = queues cut;
               busySent = λ h. omega (arith, cut .up);
             });

@@ -1,15 +1,16 @@
 -- Laws of the lines: what a batch adds to them, and what follows where they are empty.
 use Prim.Native.Nat.{ℕ}
-use mathlib.Core.Path.{_≡_, refl, ap}
-use mathlib.Core.List.{List, [], _∷_, _++_, map}
+use mathlib.Core.Path.{_≡_, refl, sym, ap, _∙_}
+use mathlib.Core.List.{List, [], _∷_, _++_, map, cons≢nil}
 use mathlib.Core.Bool.{Bool, true, false, cond, true≢false, false≢true}
 use Rattle.journal.specs.declared.Entry.{Entry}
 use Rattle.journal.specs.Entry.{placedAt}
+use Rattle.journal.specs.Due.{due}
 use Rattle.lists.specs.Elem.{lastOr, elem-none}
 use Rattle.rules.specs.declared.Term.{Term}
 use Rattle.rules.specs.Shape.{isEmpty}
 use Rattle.delivery.specs.World.{Sent, Ack, onLine}
-use Rattle.delivery.specs.Invariant.{lineEntries, endsOf, LineTerms, BackTerms, Unacknowledged}
+use Rattle.delivery.specs.Invariant.{lineEntries, endsOf, LineTerms, LineHas, whole, nothing, BackTerms, Unacknowledged}
 
 -- ------------------------------------------------------------------------
 -- append
@@ -52,6 +53,27 @@ unfolding onLine endsOf
 onLine-ends j t [] e = absurd (true≢false e)
 onLine-ends j t (x ∷ []) e = refl
 onLine-ends j t (x ∷ y ∷ xs) e = onLine-ends j t (y ∷ xs) refl
+
+-- ------------------------------------------------------------------------
+-- what a line has
+
+module _ {j : List Entry} {w last sent : ℕ} where
+  -- a window that is not Suspended has on its line what is due
+  pub line-here : {away : Bool} {line : List Sent} → LineHas j w away last sent line → away ≡ false →
+      lineEntries line ≡ map (placedAt j) (due j w last sent)
+  line-here (whole is) here = is
+  line-here (nothing gone none) here = absurd (true≢false (sym gone ∙ here))
+
+  -- and so has any window with something on its line
+  pub line-some : {away : Bool} {s : Sent} {rest : List Sent} → LineHas j w away last sent (s ∷ rest) →
+      lineEntries (s ∷ rest) ≡ map (placedAt j) (due j w last sent)
+  line-some (whole is) = is
+  line-some (nothing gone none) = absurd (cons≢nil none)
+
+  -- a window that is dropped has on its line what it had
+  pub line-away : {away : Bool} {line : List Sent} → LineHas j w away last sent line → LineHas j w true last sent line
+  line-away (whole is) = whole is
+  line-away (nothing gone none) = nothing refl none
 
 -- ------------------------------------------------------------------------
 -- empty lines

@@ -109,7 +109,7 @@ pub keep-requeue : {j : List Entry} {c c′ w : ℕ} {p : Side} (n q : List ℕ)
     isSuspended (p .view .condition) ≡ isSuspended s → Queues j c′ w (p .view .acked) (p .view .sent) n q s → Inv j c′ w (withQueues n q s p)
 keep-requeue {p = p} n q s inv e queues = record {
   taken = inv .taken;
-  flight = inv .flight;
+  flight = rw e at (inv .flight);
   unacked = rw e at (inv .unacked);
   queues = queues;
   busySent = inv .busySent;

@@ -75,12 +75,12 @@ reached-work wd wd′ r (mains m) = record {
 reached-work wd wd′ r (works w h p′ work e s) =
     replaced wd wd′ w p′ r h e s (keep-worked (read-in wd r) (few-in wd r) (r .each w h) work)
 
-reached-restart : (wd wd′ : World) → Reached wd → Restarted wd wd′ → Reached wd′
-reached-restart wd wd′ r m = record {
+reached-restart : (silent : ℕ) (wd wd′ : World) → Reached wd → Restarted silent wd wd′ → Reached wd′
+reached-restart silent wd wd′ r m = record {
   inShape = m .shaped;
   each = λ w h.
       let h′ : w < length (wd .sides) = omega (arith, m .count) in
-      rw (m .journal, m .each w h′) (keep-start (r .each w h′) (m .least w h′));
+      rw (m .journal, m .each w h′) (keep-start silent (sideAt w wd) (r .each w h′ .taken) (m .least w h′));
 }
 
 pub numbersOf-append : (j : List Entry) (e : Entry) → numbersOf (j ++ (e ∷ [])) ≡ numbersOf j ++ numbersOf (e ∷ [])
@@ -106,7 +106,7 @@ reached-step wd s r = by (step-facts wd (r .inShape) s)
     by (working quiet work) = reached-work wd _ r work
     by (dropping w is done h e sh) = replaced wd _ w _ r h e sh (keep-drop (r .each w h))
     by (joining w is done h away e sh) = replaced wd _ w _ r h e sh (keep-join (r .each w h) away)
-    by (starting b is done m) = reached-restart wd _ r m
+    by (starting b silent is done m) = reached-restart silent wd _ r m
     by (appending e is done h same) = reached-append wd _ e r h same
 
 pub reached-run : (wd : World) (ss : List Step) → Reached wd → Reached (run wd ss)

@@ -10,7 +10,8 @@ use Rattle.journal.specs.Entry.{numbersOf}
 use Rattle.journal.specs.Own.{own}
 use Rattle.record.specs.Record.{newRecord, takeAll}
 use Rattle.rules.specs.View.{PlayerView}
-use Rattle.rules.specs.Rules.{Outcome, startRule}
+use Rattle.rules.specs.Window.{Report}
+use Rattle.rules.specs.Rules.{Outcome, speaks, said, startRule}
 use Rattle.delivery.specs.World.{Side, World, sideAt, Step, main, catch, written, send, ack, late-ack, drop, join, start, append, Reply, answered, empty, unmade, step, run, opened}
 use Rattle.delivery.specs.World as W
 use Rattle.delivery.specs.Same.{sameWorld}
@@ -32,7 +33,7 @@ begins (ack w) r = false
 begins (late-ack w t i) r = false
 begins (drop w) r = isDone r
 begins (join w) r = isDone r
-begins (start b) r = isDone r
+begins (start b silent) r = isDone r
 begins (append e) r = isDone r
 
 -- The number of steps since the last fault or append that changed something: the player's state, a record or a line differs after it.
@@ -54,7 +55,7 @@ joinedBy w (ack v) r b = b
 joinedBy w (late-ack v t i) r b = b
 joinedBy w (drop v) r b = cond (isDone r) (cond (eqb v w) false b) b
 joinedBy w (join v) r b = cond (isDone r) (cond (eqb v w) true b) b
-joinedBy w (start l) r b = cond (isDone r) true b
+joinedBy w (start l silent) r b = cond (isDone r) (speaks silent w) b
 joinedBy w (append e) r b = b
 
 -- whether window w is joined after the list, where it was or was not before
@@ -73,7 +74,7 @@ isWork (ack w) = true
 isWork (late-ack w t i) = true
 isWork (drop w) = false
 isWork (join w) = false
-isWork (start b) = false
+isWork (start b silent) = false
 isWork (append e) = false
 
 -- "None can": no Main, Catch, Send, Written, Take or Ack that the list might go on with would change anything
@@ -87,23 +88,28 @@ pub record Leading (j : List Entry) (w : ℕ) (p : Side) : Type 0 where
   pub list : p .taken ≡ take k (own j w)
   pub folded : p .record′ ≡ takeAll (take k (own j w)) newRecord
 
--- the three results, for a world, a list of steps from it, and W windows
-pub record Delivers (count : ℕ) (wd : World) (steps : List Step) : Type 0 where
+-- the three results, for W windows, the set of those silent at the first Start, the world after it, and a list of steps from there
+pub record Delivers (count silent : ℕ) (wd : World) (steps : List Step) : Type 0 where
   -- every window has taken a leading part of its own entries, once each and in order
   pub leading : (w : ℕ) → w < count → Leading (run wd steps .journal) w (sideAt w (run wd steps))
   -- with all windows joined, at most L × (1 + 5 × W) steps since the last fault or append changed anything
-  pub bound : ((w : ℕ) → w < count → joinedAfter w true wd steps ≡ true) → changes 0 wd steps ≤ length (run wd steps .journal) * (1 + 5 * count)
+  pub bound : ((w : ℕ) → w < count → joinedAfter w (speaks silent w) wd steps ≡ true) →
+      changes 0 wd steps ≤ length (run wd steps .journal) * (1 + 5 * count)
   -- with all windows joined, when none can, every window has taken all of its own entries
-  pub finish : ((w : ℕ) → w < count → joinedAfter w true wd steps ≡ true) → NoneCan (run wd steps) →
+  pub finish : ((w : ℕ) → w < count → joinedAfter w (speaks silent w) wd steps ≡ true) → NoneCan (run wd steps) →
       (w : ℕ) → w < count → sideAt w (run wd steps) .taken ≡ own (run wd steps .journal) w
 
--- The first Start: W windows, a batch limit, and from each window as its report a new record's last index; whatever the player held before.
-abbrev pub firstStart : PlayerView → List Entry → ℕ → ℕ → Outcome
-firstStart before j count limit = startRule (numbersOf j) count limit (replicate count 0) before
+-- What new windows say to a Start: each that is not silent has a new record's last index, 0, as its report.
+abbrev pub newReports : ℕ → ℕ → List Report
+newReports silent count = said silent (replicate count 0)
 
--- Demand 3. The list starts from new windows, empty lines, any journal and a Start answered 0. W, the batch limit, the journal and the list
--- are any that this Start takes.
+-- The first Start: W new windows and a batch limit; whatever the player held before.
+abbrev pub firstStart : PlayerView → List Entry → (count limit silent : ℕ) → Outcome
+firstStart before j count limit silent = startRule (numbersOf j) count limit (newReports silent count) before
+
+-- Demand 3. The list starts from new windows, empty lines, any journal and a Start answered 0. W, the batch limit, the silent windows, the
+-- journal and the list are any that this Start takes.
 abbrev pub Demand3 : Type 0
 Demand3 =
-    (before : PlayerView) (j : List Entry) (count limit : ℕ) (steps : List Step) →
-    firstStart before j count limit .answer ≡ 0 → Delivers count (opened j (firstStart before j count limit)) steps
+    (before : PlayerView) (j : List Entry) (count limit silent : ℕ) (steps : List Step) →
+    firstStart before j count limit silent .answer ≡ 0 → Delivers count silent (opened j (firstStart before j count limit silent)) steps

@@ -1,6 +1,6 @@
 -- The steps that reach every window: Main, Start and an append; and all steps together.
 use Prim.Native.Nat.{ℕ, suc, _≤_, _<_}
-use mathlib.Core.Path.{_≡_, refl, ap, ap₂, subst, subst⁻¹, _∙_}
+use mathlib.Core.Path.{_≡_, refl, ap, ap₂, subst⁻¹, _∙_}
 use mathlib.Core.Logic.{⊎-elim}
 use mathlib.Core.List.{List, [], _∷_, map}
 use mathlib.Core.Bool.{true}
@@ -9,11 +9,12 @@ use native.Mathlib.Numerals.{add-one}
 use borrow.Author.Tests.{eq-eqb, ne-eqb, lt-ltb, le-ltb}
 use lib.ListN.{length, getD, length-map, List·getD-map}
 use Rattle.journal.specs.declared.Entry.{Entry}
+use Rattle.journal.specs.Entry.{countOf}
 use Rattle.lists.specs.Cases.{le-or-lt}
 use Rattle.rules.specs.Shape.{shape}
-use Rattle.rules.specs.Window.{mainAt, started}
-use Rattle.rules.specs.Rules.{Outcome, windowAt, mainRule, least, startRule}
-use Rattle.rules.specs.Offers.{mainRule-done, mainRule-refuses, mainNext-at, mainRule-count, startRule-done, startRule-refuses, startNext-at, least-le, main-shaped, start-shaped}
+use Rattle.rules.specs.Window.{mainAt, Report, silence, startedBy}
+use Rattle.rules.specs.Rules.{Outcome, windowAt, mainRule, saidBy, said, startRule}
+use Rattle.rules.specs.Offers.{mainRule-done, mainRule-refuses, mainNext-at, mainRule-count, startRule-done, startRule-refuses, startNext-at, said-at, least-le, main-shaped, start-shaped}
 use Rattle.delivery.specs.World.{Side, World, noSide, sideAt, numbersIn, playerIn, withView, withViews, withPlayer, Step, main, catch, written, send, ack, late-ack, drop, join, start, append, cleared, reportsIn, step}
 use Rattle.delivery.specs.World as W
 use Rattle.delivery.specs.Invariant.{lastOf}
@@ -69,41 +70,51 @@ module _ (wd : World) (shaped : shape (numbersIn wd) (playerIn wd) ≡ true) whe
   report-in : (w : ℕ) → getD (reportsIn wd) w 0 ≡ lastOf (sideAt w wd)
   report-in w = List·getD-map lastOf (wd .sides) w noSide
 
-  restarted : (b : ℕ) → startRule (numbersIn wd) (length (wd .sides)) b (reportsIn wd) (playerIn wd) .answer ≡ 0 →
-      Restarted wd (step (start b) wd .world)
+  -- what Start is told of window w
+  said-in : (silent w : ℕ) → w < length (wd .sides) → getD (said silent (reportsIn wd)) w silence ≡ saidBy silent w (lastOf (sideAt w wd))
+  said-in silent w h =
+      said-at silent (reportsIn wd) w (omega (arith, length-map (wd .sides) lastOf)) ∙ ap (saidBy silent w) (report-in w)
+
+  restarted : (b silent : ℕ) →
+      startRule (numbersIn wd) (length (wd .sides)) b (said silent (reportsIn wd)) (playerIn wd) .answer ≡ 0 →
+      Restarted silent wd (step (start b silent) wd .world)
   unfolding step withPlayer
-  restarted b e =
-      let o : Outcome = startRule (numbersIn wd) (length (wd .sides)) b (reportsIn wd) (playerIn wd) in
-      let d = startRule-done (numbersIn wd) (length (wd .sides)) b (reportsIn wd) (playerIn wd) e in
-      let is : step (start b) wd .world ≡ clearedAll (withPlayer (o .next) wd) = calledThen-done o clearedAll wd e in
-      let n : length (o .next .windows) ≡ length (wd .sides)
-      = ap (λ q. length (q .windows)) (d .next) ∙ length-map (reportsIn wd) started ∙ length-map (wd .sides) lastOf in
-      let reports : length (reportsIn wd) ≡ length (wd .sides) = length-map (wd .sides) lastOf in
-      subst⁻¹ (Restarted wd) is
+  restarted b silent e =
+      let rs : List Report = said silent (reportsIn wd) in
+      let l : ℕ = countOf (numbersIn wd) in
+      let o : Outcome = startRule (numbersIn wd) (length (wd .sides)) b rs (playerIn wd) in
+      let d = startRule-done (numbersIn wd) (length (wd .sides)) b rs (playerIn wd) e in
+      let is : step (start b silent) wd .world ≡ clearedAll (withPlayer (o .next) wd) = calledThen-done o clearedAll wd e in
+      let n : length (o .next .windows) ≡ length (wd .sides) = d .windows in
+      subst⁻¹ (Restarted silent wd) is
       (record {
         journal = refl;
         count = length-map (withViews (o .next .windows) (wd .sides)) cleared ∙ withViews-length (o .next .windows) (wd .sides) n;
-        least = λ w h.
+        least = λ w h speaking.
             subst⁻¹ (λ c. c ≤ lastOf (sideAt w wd)) (ap (λ q. q .current) (d .next))
-            (subst (λ r. least (reportsIn wd) ≤ r) (report-in w) (least-le (reportsIn wd) w (omega arith)));
+            (least-le l rs w (lastOf (sideAt w wd)) (said-in silent w h ∙ rw speaking));
         each = λ w h.
             List·getD-map cleared (withViews (o .next .windows) (wd .sides)) w noSide
             ∙ ap cleared
             (withViews-at (o .next .windows) (wd .sides) w n h
             ∙ ap (λ v. withView v (sideAt w wd))
-            (ap (windowAt w) (d .next) ∙ startNext-at b (reportsIn wd) w (omega arith) ∙ ap started (report-in w)));
+            (ap (windowAt w) (d .next)
+            ∙ startNext-at l b rs w (omega (arith, d .given .each))
+            ∙ ap₂ startedBy (count-in wd) (said-in silent w h)));
         shaped =
             ap (λ vs. shape (numbersIn wd) (record { limit = o .next .limit; current = o .next .current; windows = vs }))
             (views-cleared (withViews (o .next .windows) (wd .sides)))
             ∙ ap (shape (numbersIn wd)) (withPlayer-player wd (o .next) n)
-            ∙ start-shaped (numbersIn wd) (length (wd .sides)) b (reportsIn wd) (playerIn wd) e;
+            ∙ start-shaped (numbersIn wd) (length (wd .sides)) b rs (playerIn wd) e;
       })
 
-  facts-start : (b : ℕ) → Facts (start b) wd
+  facts-start : (b silent : ℕ) → Facts (start b silent) wd
   unfolding step
-  facts-start b =
-      call-either wd (start b) (startRule (numbersIn wd) (length (wd .sides)) b (reportsIn wd) (playerIn wd)) clearedAll refl (ne-eqb _ 0)
-      (startRule-refuses (numbersIn wd) (length (wd .sides)) b (reportsIn wd) (playerIn wd)) (λ e. starting b refl (eq-eqb _ 0 e) (restarted b e))
+  facts-start b silent =
+      let rs : List Report = said silent (reportsIn wd) in
+      call-either wd (start b silent) (startRule (numbersIn wd) (length (wd .sides)) b rs (playerIn wd)) clearedAll refl (ne-eqb _ 0)
+      (startRule-refuses (numbersIn wd) (length (wd .sides)) b rs (playerIn wd))
+      (λ e. starting b silent refl (eq-eqb _ 0 e) (restarted b silent e))
 
   -- ------------------------------------------------------------------------
   -- An append
@@ -131,5 +142,5 @@ module _ (wd : World) (shaped : shape (numbersIn wd) (playerIn wd) ≡ true) whe
   step-facts (late-ack w t i) = facts-late wd shaped w t i
   step-facts (drop w) = facts-drop wd shaped w
   step-facts (join w) = facts-join wd shaped w
-  step-facts (start b) = facts-start b
+  step-facts (start b silent) = facts-start b silent
   step-facts (append e) = facts-append e

@@ -1,4 +1,5 @@
--- Document 01, "Whole runs", with document 02's acks (W1): a world of journal, player, windows and lines, and what each step makes of it.
+-- Document 01, "Whole runs", with document 02's acks (W1) and silent windows (W3): a world of journal, player, windows and lines, and what
+-- each step makes of it.
 use Prim.Native.Nat.{ℕ}
 use mathlib.Core.List.{List, [], _∷_, _++_, map}
 use mathlib.Core.Bool.{Bool, true, false, cond, _||_}
@@ -11,7 +12,7 @@ use Rattle.record.specs.Record.{newRecord, takeNumbers}
 use Rattle.record.specs.Record as Take
 use Rattle.rules.specs.declared.Term.{Term}
 use Rattle.rules.specs.View.{WindowView, noWindow, PlayerView}
-use Rattle.rules.specs.Rules.{Outcome, mainRule, catchRule, writtenRule, ackRule, dropRule, joinRule, sendRule, batchAt, startRule}
+use Rattle.rules.specs.Rules.{Outcome, mainRule, catchRule, writtenRule, ackRule, dropRule, joinRule, sendRule, batchAt, said, startRule}
 
 -- an entry on its way to a window, with the term of its batch and whether it is the batch's last
 pub record Sent : Type 0 where
@@ -97,7 +98,7 @@ takeFront acks s rest p =
 -- ------------------------------------------------------------------------
 -- Steps
 
--- A Take says whether it acks an entry that is not the last of its batch.
+-- A Take says whether it acks an entry that is not the last of its batch. A Start has a batch limit and a set of silent windows.
 pub data Step : Type 0 where
   main : ℕ → Step
   catch : ℕ → Term → ℕ → Step
@@ -108,7 +109,7 @@ pub data Step : Type 0 where
   late-ack : ℕ → Term → ℕ → Step
   drop : ℕ → Step
   join : ℕ → Step
-  start : ℕ → Step
+  start : (limit silent : ℕ) → Step
   append : Entry → Step
 
 -- document 01's number; or a Take or an Ack from an empty line; or a step that is not made: a late ack of a term that is not older, an
@@ -160,7 +161,7 @@ ackAtLine w (a ∷ rest) wd =
 abbrev pub cleared : Side → Side
 cleared p = withLines [] [] p
 
--- the reports that Start gets: the last index of each window's record
+-- the reports for Start, which gets those of the windows that are not silent: the last index of each window's record
 abbrev pub reportsIn : World → List ℕ
 reportsIn wd = map (λ p. p .record′ .last .0) (wd .sides)
 
@@ -179,8 +180,8 @@ step (drop w) wd = called (dropRule (numbersIn wd) w (playerIn wd)) wd
 step (join w) wd =
     calledThen (joinRule (numbersIn wd) w (sideAt w wd .record′ .last .0) (playerIn wd))
     (λ wd′. withSide w (cleared (sideAt w wd′)) wd′) wd
-step (start b) wd =
-    calledThen (startRule (numbersIn wd) (length (wd .sides)) b (reportsIn wd) (playerIn wd))
+step (start b silent) wd =
+    calledThen (startRule (numbersIn wd) (length (wd .sides)) b (said silent (reportsIn wd)) (playerIn wd))
     (λ wd′. record { journal = wd′ .journal; limit = wd′ .limit; current = wd′ .current; sides = map cleared (wd′ .sides) }) wd
 step (append e) wd =
     cond (ltb (length (wd .journal)) 65535)

@@ -32,7 +32,7 @@ impl Host {
         };
         let reports = [0; 16];
         let count = windows as usize;
-        let started = operations::start_on(fresh, journal, windows, limit, &reports[0..count]);
+        let started = operations::start_on(fresh, journal, windows, limit, &reports[0..count], 0);
         let player = started.player;
         let answer = started.answer;
         Host {

@@ -1,73 +1,77 @@
 -- What Start makes of the player, for each way out.
 use Prim.Native.Nat.{ℕ, _≤_}
-use mathlib.Core.Path.{_≡_, refl, sym, ap, ap₂, _∙_}
-use mathlib.Core.List.{List, map}
+use mathlib.Core.Path.{_≡_, refl, ap₂, _∙_}
+use mathlib.Core.List.{List}
 use mathlib.Core.Bool.{true, false}
 use native.Mathlib.Omega.{arith}
 use borrow.Author.Tests.{leb-true, eqb-true}
 use lib.ListN.{length}
 use lib.Dec.{leb}
-use Rattle.journal.specs.Entry.{inShape, entriesOf}
+use Rattle.journal.specs.Entry.{inShape, countOf, entriesOf}
+use Rattle.journal.specs.EntryLaws.{inShape-entries, entriesOf-length}
 use Rattle.lists.specs.Cases.{and-left, and-right}
 use Rattle.window.specs.declared.Answer.{Answer}
 use Rattle.window.specs.declared.Answer.the-variants.{Done, OutOfShape, BadReport}
 use Rattle.player.specs.declared.Player.{Player}
-use Rattle.player.specs.View.{firstWindows, playerOf}
+use Rattle.player.specs.View.{playerOf}
 use Rattle.rules.specs.Shape.{countFits, limitFits}
-use Rattle.rules.specs.Window.{started}
-use Rattle.rules.specs.View.{WindowView, PlayerView}
-use Rattle.rules.specs.Rules.{refuse, areReports, least, startRule}
+use Rattle.rules.specs.Window.{Report}
+use Rattle.rules.specs.Rules.{refuse, areReports, startFits, startRule}
+use Rattle.rules.specs.Offers.{areReports-le}
 use Rattle.player.specs.Promise.{freshWindows, freshPlayer, Starts}
 use Rattle.window.specs.Promise.{numberOf}
-use Rattle.operations.specs.Starting.{startFits, freshWindows-shown}
+use Rattle.operations.specs.Starting.{lowest, lowest-least, freshPlayer-shown}
 
--- 1 to 16 reports, as many as windows
-pub record Counted (count : ℕ) (reports : List ℕ) : Type 0 where
-  pub some : 1 ≤ length reports
-  pub few : length reports ≤ 16
-  pub same : length reports ≡ count
+-- n reports, as many as windows and sixteen at most, and a journal in shape
+pub record Counted (ns : List ℕ) (count n : ℕ) : Type 0 where
+  pub few : n ≤ 16
+  pub same : n ≡ count
+  pub entries : countOf ns ≤ 65535
 
-module _ (ns : List ℕ) (count limit : ℕ) (reports : List ℕ) where
-  pub counted : startFits ns count limit reports ≡ true → Counted count reports
-  counted h =
-      let a = and-left (countFits count) _ h in
-      let b = and-right (inShape ns) _ (and-right (limitFits limit) _ (and-right (countFits count) _ h)) in
-      let e = eqb-true (length reports) count b in
-      let low = leb-true 1 count (and-left (leb 1 count) _ a) in
-      let high = leb-true count 16 (and-right (leb 1 count) _ a) in
-      record { some = omega arith; few = omega arith; same = e }
+pub counted : (ns : List ℕ) (count limit n : ℕ) → startFits ns count limit n ≡ true → Counted ns count n
+counted ns count limit n h =
+    let a = and-left (countFits count) _ h in
+    let b = and-right (limitFits limit) _ (and-right (countFits count) _ h) in
+    let e = eqb-true n count (and-right (inShape ns) _ b) in
+    let high = leb-true count 16 (and-right (leb 1 count) _ a) in
+    record { few = omega arith; same = e; entries = inShape-entries ns (and-left (inShape ns) _ b) }
 
-  module _ (p : Player) where
-    -- a refusal
-    refused : (a : Answer) → startRule ns count limit reports (playerOf p) ≡ refuse (numberOf a) (playerOf p) → (numberOf a ≡ 0 → ⊥) →
-        Starts p count limit reports (record { answer = a; player = p }) (startRule ns count limit reports (playerOf p))
-    refused a e n = rw e (record { answer = refl; next = refl; fresh = λ z. absurd (n z); unchanged = λ h. refl })
+module _ (ns : List ℕ) (count limit : ℕ) (reports : List Report) (p : Player) where
+  -- a refusal
+  refused : (a : Answer) → startRule ns count limit reports (playerOf p) ≡ refuse (numberOf a) (playerOf p) → (numberOf a ≡ 0 → ⊥) →
+      Starts p (countOf ns) count limit reports (record { answer = a; player = p }) (startRule ns count limit reports (playerOf p))
+  refused a e n = rw e (record { answer = refl; next = refl; fresh = λ z. absurd (n z); unchanged = λ h. refl })
 
-    pub start-shapeless : startFits ns count limit reports ≡ false →
-        Starts p count limit reports (record { answer = OutOfShape; player = p }) (startRule ns count limit reports (playerOf p))
+  pub start-shapeless : startFits ns count limit (length reports) ≡ false →
+      Starts p (countOf ns) count limit reports (record { answer = OutOfShape; player = p })
+      (startRule ns count limit reports (playerOf p))
+  unfolding startRule
+  start-shapeless h = refused OutOfShape (rw h) (λ z. omega arith)
+
+  module _ (h : startFits ns count limit (length reports) ≡ true) where
+    pub start-refused : areReports (entriesOf ns) 0 reports ≡ false →
+        Starts p (countOf ns) count limit reports (record { answer = BadReport; player = p })
+        (startRule ns count limit reports (playerOf p))
     unfolding startRule
-    start-shapeless h = refused OutOfShape (rw h) (λ z. omega arith)
+    start-refused b = refused BadReport (rw (h, b)) (λ z. omega arith)
 
-    module _ (h : startFits ns count limit reports ≡ true) where
-      pub start-refused : areReports (entriesOf ns) 0 reports ≡ false →
-          Starts p count limit reports (record { answer = BadReport; player = p }) (startRule ns count limit reports (playerOf p))
-      unfolding startRule
-      start-refused b = refused BadReport (rw (h, b)) (λ z. omega arith)
+    pub start-done : areReports (entriesOf ns) 0 reports ≡ true → (r : Player) → r ≡ freshPlayer (countOf ns) count limit reports →
+        Starts p (countOf ns) count limit reports (record { answer = Done; player = r })
+        (startRule ns count limit reports (playerOf p))
+    unfolding startRule
+    start-done b r e =
+        rw (h, b, e)
+        (record {
+          answer = refl;
+          next = freshPlayer-shown (countOf ns) count limit reports (counted ns count limit _ h .same);
+          fresh = λ z. refl;
+          unchanged = λ x. absurd (x refl);
+        })
 
-      pub start-done : areReports (entriesOf ns) 0 reports ≡ true → (r : Player) → r ≡ freshPlayer count limit reports →
-          Starts p count limit reports (record { answer = Done; player = r }) (startRule ns count limit reports (playerOf p))
-      unfolding startRule playerOf
-      start-done b r e =
-          rw (h, b, e) (record { answer = refl; next = ap shown windows; fresh = λ z. refl; unchanged = λ x. absurd (x refl) })
-        where
-          shown : List WindowView → PlayerView
-          shown ws = record { limit = limit; current = least reports; windows = ws }
-
-          windows : firstWindows count (freshWindows reports) ≡ map started reports
-          windows = ap (λ n. firstWindows n (freshWindows reports)) (sym (counted h .same)) ∙ freshWindows-shown reports
-
--- the player that code makes, from its parts
-pub started-player : (r : Player) (reports : List ℕ) → r .current .0 ≡ least reports → r .windows ≡ freshWindows reports →
-    r ≡ freshPlayer (r .count) (r .limit) reports
-started-player r reports l w =
-    ap₂ (λ i ws. record { count = r .count; limit = r .limit; current = record { 0 = i }; windows = ws }) l w
+-- the player that code makes, from its parts, where the reports are right
+pub started-player : (ns : List ℕ) (r : Player) (reports : List Report) → areReports (entriesOf ns) 0 reports ≡ true →
+    r .current .0 ≡ lowest (countOf ns) reports → r .windows ≡ freshWindows (countOf ns) reports →
+    r ≡ freshPlayer (countOf ns) (r .count) (r .limit) reports
+started-player ns r reports b l w =
+    ap₂ (λ i ws. record { count = r .count; limit = r .limit; current = record { 0 = i }; windows = ws })
+    (l ∙ lowest-least (countOf ns) reports (λ v n e. rw (entriesOf-length ns) at (areReports-le (entriesOf ns) 0 reports b v n e))) w

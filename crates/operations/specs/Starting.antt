@@ -1,89 +1,128 @@
--- For Start: its first checks, the least of some reports, the reports one by one, and windows stored one by one.
-use Prim.Native.Nat.{ℕ, zero, suc, _+_, _-_, _≤_, _<_, min}
-use native.Mathlib.Nat.{le-of-suc-le-suc}
+-- For Start: what is said of each window one by one, the least report, and windows stored one by one.
+use Prim.Native.Nat.{ℕ, suc, _+_, _-_, _≤_, _<_, min}
 use native.Mathlib.Numerals.{add-one}
 use native.Mathlib.Omega.{arith}
-use mathlib.Core.Path.{_≡_, refl, sym, ap₂, _∙_}
+use mathlib.Core.Path.{_≡_, refl, sym, ap, ap₂, _∙_}
 use mathlib.Core.List.{List, [], _∷_, _++_, map, map-append, append-assoc}
-use mathlib.Core.Bool.{Bool, true, _&&_}
+use mathlib.Core.Bool.{true, _&&_}
 use lib.ListN.{length, take, drop, getD, set, replicate, drop-of-length-le, length-append, length-map}
 use lib.Seq.{take-suc, length-take-le, drop-cons, set-at}
-use lib.Dec.{eqb}
 use Rattle.journal.specs.declared.Entry.{Entry}
-use Rattle.journal.specs.Entry.{inShape}
 use Rattle.window.specs.declared.Window.{Window}
-use Rattle.window.specs.Promise.{freshWindow}
-use Rattle.window.specs.Laws.{viewOf-fresh}
-use Rattle.player.specs.View.{firstWindows}
-use Rattle.player.specs.Promise.{freshWindows}
-use Rattle.rules.specs.Shape.{countFits, limitFits}
-use Rattle.rules.specs.Window.{started}
-use Rattle.rules.specs.Rules.{isStartReport, areReports, least}
-
--- what Start asks before the reports are looked at
-abbrev pub startFits : List ℕ → ℕ → ℕ → List ℕ → Bool
-startFits ns count limit reports = countFits count && (limitFits limit && (inShape ns && eqb (length reports) count))
+use Rattle.window.specs.Promise.{freshWindow, windowBy}
+use Rattle.window.specs.Laws.{viewOf-by}
+use Rattle.player.specs.View.{firstWindows, playerOf}
+use Rattle.player.specs.Promise.{freshWindows, freshPlayer}
+use Rattle.rules.specs.Window.{Report, told, silence, startedBy}
+use Rattle.rules.specs.Rules.{saidBy, said, isStartReport, areReports, spoken, least}
+use Rattle.rules.specs.Offers.{startNext, said-length, said-at}
 
 -- ------------------------------------------------------------------------
--- least
+-- said
 
-least-snoc : (r : ℕ) (rs : List ℕ) (x : ℕ) → least ((r ∷ rs) ++ (x ∷ [])) ≡ min (least (r ∷ rs)) x
-unfolding least
-least-snoc r [] x = refl
-least-snoc r (s ∷ rs) x = let ih = least-snoc s rs x in omega arith
+module _ (silent : ℕ) (reports : List ℕ) (w : ℕ) (l : w < length reports) where
+  said-within : w < length (said silent reports)
+  said-within = rw (said-length silent reports) l
 
--- one more report
-pub least-more : (rs : List ℕ) (k : ℕ) → 1 ≤ k → k < length rs → least (take (k + 1) rs) ≡ min (least (take k rs)) (getD rs k 0)
-least-more rs zero h l = absurd (omega arith)
-least-more [] (suc k) h l = absurd (omega arith)
-least-more (r ∷ rs) (suc k) h l = rw (add-one, take-suc rs k 0 (le-of-suc-le-suc l)) (least-snoc r (take k rs) (getD rs k 0))
+  said-drop : drop w (said silent reports) ≡ saidBy silent w (getD reports w 0) ∷ drop (w + 1) (said silent reports)
+  said-drop = rw (add-one, drop-cons (said silent reports) w silence said-within, said-at silent reports w l)
 
-pub least-first : (rs : List ℕ) → 1 ≤ length rs → least (take 1 rs) ≡ getD rs 0 0
-unfolding least
-least-first [] h = absurd (omega arith)
-least-first (r ∷ rs) h = refl
+  said-take : take (w + 1) (said silent reports) ≡ take w (said silent reports) ++ (saidBy silent w (getD reports w 0) ∷ [])
+  said-take = rw (add-one, take-suc (said silent reports) w silence said-within, said-at silent reports w l)
+
+said-end : (silent : ℕ) (reports : List ℕ) (w : ℕ) → length reports ≤ w → drop w (said silent reports) ≡ []
+said-end silent reports w l = drop-of-length-le (said silent reports) {i = w} (rw (said-length silent reports) l)
 
 -- ------------------------------------------------------------------------
 -- areReports
 
-pub areReports-at : (j : List Entry) (rs : List ℕ) (w : ℕ) → w < length rs →
-    areReports j w (drop w rs)
-    ≡ (isStartReport j w (getD rs w 0) && areReports j (w + 1) (drop (w + 1) rs))
+pub areReports-at : (j : List Entry) (silent : ℕ) (reports : List ℕ) (w : ℕ) → w < length reports →
+    areReports j w (drop w (said silent reports))
+    ≡ (isStartReport j w (saidBy silent w (getD reports w 0)) && areReports j (w + 1) (drop (w + 1) (said silent reports)))
 unfolding areReports
-areReports-at j rs w l = rw (add-one, drop-cons rs w 0 l)
+areReports-at j silent reports w l = rw (said-drop silent reports w l, add-one w)
 
-pub areReports-end : (j : List Entry) (rs : List ℕ) (w : ℕ) → length rs ≤ w → areReports j w (drop w rs) ≡ true
+pub areReports-end : (j : List Entry) (silent : ℕ) (reports : List ℕ) (w : ℕ) → length reports ≤ w →
+    areReports j w (drop w (said silent reports)) ≡ true
 unfolding areReports
-areReports-end j rs w l = rw (drop-of-length-le rs {i = w} l)
+areReports-end j silent reports w l = rw (said-end silent reports w l)
+
+-- ------------------------------------------------------------------------
+-- the least of a number and some reports
+
+abbrev pub lesser : ℕ → Report → ℕ
+lesser n (told r) = min n r
+lesser n silence = n
+
+unfoldable pub lowest : ℕ → List Report → ℕ
+lowest n [] = n
+lowest n (r ∷ rs) = lowest (lesser n r) rs
+
+pub lowest-at : (n silent : ℕ) (reports : List ℕ) (w : ℕ) → w < length reports →
+    lowest n (drop w (said silent reports))
+    ≡ lowest (lesser n (saidBy silent w (getD reports w 0))) (drop (w + 1) (said silent reports))
+unfolding lowest
+lowest-at n silent reports w l = rw (said-drop silent reports w l)
+
+pub lowest-end : (n silent : ℕ) (reports : List ℕ) (w : ℕ) → length reports ≤ w → lowest n (drop w (said silent reports)) ≡ n
+unfolding lowest
+lowest-end n silent reports w l = rw (said-end silent reports w l)
+
+least-min : (l m r : ℕ) (rs : List ℕ) → least l (min m r ∷ rs) ≡ least l (m ∷ r ∷ rs)
+unfolding least
+least-min l m r [] = refl
+least-min l m r (s ∷ rs) = omega arith
+
+lowest-from : (l n : ℕ) (rs : List Report) → lowest n rs ≡ least l (n ∷ spoken rs)
+unfolding lowest spoken least
+lowest-from l n [] = refl
+lowest-from l n (told r ∷ rs) = lowest-from l (min n r) rs ∙ least-min l n r (spoken rs)
+lowest-from l n (silence ∷ rs) = lowest-from l n rs
+
+-- where no report is above l, the least of l and the reports is the least report, or l where there is none
+pub lowest-least : (l : ℕ) (rs : List Report) → ((w r : ℕ) → getD rs w silence ≡ told r → r ≤ l) → lowest l rs ≡ least l (spoken rs)
+unfolding lowest spoken least
+lowest-least l [] h = refl
+lowest-least l (told r ∷ rs) h =
+    let within : r ≤ l = h 0 r refl in
+    ap (λ n. lowest n rs) (omega arith) ∙ lowest-from l r rs
+lowest-least l (silence ∷ rs) h = lowest-least l rs (λ w. h (suc w))
 
 -- ------------------------------------------------------------------------
 -- freshWindows
 
-pub freshWindows-none : replicate 16 (freshWindow 0) ≡ freshWindows []
+pub freshWindows-none : (l : ℕ) → replicate 16 (freshWindow 0) ≡ freshWindows l []
 unfolding freshWindows
-freshWindows-none = refl
+freshWindows-none l = refl
 
--- one more window, from its report
-freshWindows-snoc : (rs : List ℕ) (r w : ℕ) → length rs ≡ w → w < 16 →
-    set (freshWindows rs) w (freshWindow r) ≡ freshWindows (rs ++ (r ∷ []))
+-- one more window, from what is said of it
+freshWindows-snoc : (l : ℕ) (rs : List Report) (r : Report) (w : ℕ) → length rs ≡ w → w < 16 →
+    set (freshWindows l rs) w (windowBy l r) ≡ freshWindows l (rs ++ (r ∷ []))
 unfolding freshWindows
-freshWindows-snoc rs r w e h =
+freshWindows-snoc l rs r w e h =
     let left : 16 - length rs ≡ suc (16 - suc (length rs)) = omega arith in
     let after : length (rs ++ (r ∷ [])) ≡ suc (length rs) = omega (arith, length-append rs (r ∷ [])) in
-    rw (left, set-at (map freshWindow rs) (freshWindow 0) _ (freshWindow r) w (length-map rs freshWindow ∙ e), map-append, after)
-    (sym (append-assoc (map freshWindow rs) (freshWindow r ∷ []) _))
+    rw (left, set-at (map (windowBy l) rs) (freshWindow 0) _ (windowBy l r) w (length-map rs (windowBy l) ∙ e), map-append, after)
+    (sym (append-assoc (map (windowBy l) rs) (windowBy l r ∷ []) _))
 
-pub freshWindows-more : (w : ℕ) (rs : List ℕ) → w < length rs → w < 16 →
-    set (freshWindows (take w rs)) w (freshWindow (getD rs w 0)) ≡ freshWindows (take (w + 1) rs)
-freshWindows-more w rs l h =
-    rw (add-one, take-suc rs w 0 l) (freshWindows-snoc (take w rs) (getD rs w 0) w (length-take-le w rs (omega arith)) h)
+pub freshWindows-more : (l silent : ℕ) (reports : List ℕ) (w : ℕ) → w < length reports → w < 16 →
+    set (freshWindows l (take w (said silent reports))) w (windowBy l (saidBy silent w (getD reports w 0)))
+    ≡ freshWindows l (take (w + 1) (said silent reports))
+freshWindows-more l silent reports w h few =
+    let within = said-within silent reports w h in
+    rw (said-take silent reports w h)
+    (freshWindows-snoc l (take w (said silent reports)) _ w (length-take-le w (said silent reports) (omega arith)) few)
 
-firstWindows-fresh : (rs : List ℕ) (ws : List Window) → firstWindows (length rs) (map freshWindow rs ++ ws) ≡ map started rs
+firstWindows-fresh : (l : ℕ) (rs : List Report) (ws : List Window) →
+    firstWindows (length rs) (map (windowBy l) rs ++ ws) ≡ map (startedBy l) rs
 unfolding firstWindows
-firstWindows-fresh [] ws = refl
-firstWindows-fresh (r ∷ rs) ws = ap₂ _∷_ (viewOf-fresh r) (firstWindows-fresh rs ws)
+firstWindows-fresh l [] ws = refl
+firstWindows-fresh l (r ∷ rs) ws = ap₂ _∷_ (viewOf-by l r) (firstWindows-fresh l rs ws)
 
--- what the fresh windows show
-pub freshWindows-shown : (rs : List ℕ) → firstWindows (length rs) (freshWindows rs) ≡ map started rs
-unfolding freshWindows
-freshWindows-shown rs = firstWindows-fresh rs _
+-- what a fresh player shows
+pub freshPlayer-shown : (l count limit : ℕ) (rs : List Report) → length rs ≡ count →
+    playerOf (freshPlayer l count limit rs) ≡ startNext l limit rs
+unfolding playerOf freshWindows
+freshPlayer-shown l count limit rs e =
+    ap (λ vs. record { limit = limit; current = least l (spoken rs); windows = vs })
+    (ap (λ n. firstWindows n (freshWindows l rs)) (sym e) ∙ firstWindows-fresh l rs _)

@@ -1,4 +1,4 @@
-// Start: fresh windows from a report of each.
+// Start: windows from the report of each, or from its silence. A set says which windows are silent: bit w for window w.
 use journal::Index;
 use player::Played;
 use player::Player;
@@ -10,15 +10,16 @@ use window::limit_fits;
 ghost use Prim.Native.Nat.{_≤_};
 ghost use mathlib.Core.Path.{_≡_};
 ghost use lib.ListN.{length};
-ghost use Rattle.journal.specs.Entry.{entriesOf};
+ghost use Rattle.journal.specs.Entry.{entriesOf, countOf};
+ghost use Rattle.window.specs.Promise.{windowBy};
 ghost use Rattle.player.specs.View.{playerOf};
 ghost use Rattle.player.specs.Promise.{freshWindows, Starts};
-ghost use Rattle.rules.specs.Rules.{isStartReport, areReports, least, startRule};
-ghost use Rattle.operations.specs.Starting.{startFits};
+ghost use Rattle.rules.specs.Rules.{saidBy, said, isStartReport, areReports, startFits, startRule};
+ghost use Rattle.operations.specs.Starting.{lesser, lowest};
 
 // Whether the number of windows, the batch limit and the journal are in shape, and there are exactly so many reports.
 fn start_in_shape(journal: &[u32], count: u32, limit: u32, reports: &[u32]) -> bool
-    ensures { λ r. ⌜ r ≡ startFits (now (journal .entry)) count limit (now (reports .entry)) ⌝ }
+    ensures { λ r. ⌜ r ≡ startFits (now (journal .entry)) count limit (length (now (reports .entry))) ⌝ }
 {
     if !count_fits(count) {
         return false;
@@ -32,10 +33,13 @@ fn start_in_shape(journal: &[u32], count: u32, limit: u32, reports: &[u32]) -> b
     reports.len() == count as usize
 }
 
-// Whether a report of window w is at most L, and 0 or the index of an entry for that window.
-fn is_start_report(journal: &[u32], w: u32, report: Index) -> bool
-    ensures { λ r. ⌜ r ≡ isStartReport (entriesOf (now (journal .entry))) w (report .0) ⌝ }
+// Whether window w is silent, or its report is at most L, and 0 or the index of an entry for that window.
+fn is_start_report(journal: &[u32], w: u32, report: Index, silent: u32) -> bool
+    ensures { λ r. ⌜ r ≡ isStartReport (entriesOf (now (journal .entry))) w (saidBy silent w (report .0)) ⌝ }
 {
+    if journal::has(silent, w) {
+        return true;
+    }
     let l = journal::entries(journal);
     if l < report.0 as usize {
         return false;
@@ -43,16 +47,16 @@ fn is_start_report(journal: &[u32], w: u32, report: Index) -> bool
     is_report(journal, w, report)
 }
 
-// Whether each report is one of its window.
-fn are_reports(journal: &[u32], reports: &[u32]) -> bool
+// Whether this holds of each window and its report.
+fn are_reports(journal: &[u32], reports: &[u32], silent: u32) -> bool
     requires { ⌜ length (now reports) ≤ 16 ⌝ }
-    ensures { λ r. ⌜ r ≡ areReports (entriesOf (now (journal .entry))) 0 (now (reports .entry)) ⌝ }
+    ensures { λ r. ⌜ r ≡ areReports (entriesOf (now (journal .entry))) 0 (said silent (now (reports .entry))) ⌝ }
 {
     let mut next = 0;
     while next < reports.len() {
         let w = next as u32;
         let report = Index(reports[next]);
-        if !is_start_report(journal, w, report) {
+        if !is_start_report(journal, w, report, silent) {
             return false;
         }
         next += 1;
@@ -60,42 +64,71 @@ fn are_reports(journal: &[u32], reports: &[u32]) -> bool
     true
 }
 
-// The least of the reports, of which there is one at least.
-fn least(reports: &[u32]) -> Index
-    requires { ⌜ 1 ≤ length (now reports) ⌝ }
-    ensures { λ r. ⌜ r .0 ≡ least (now (reports .entry)) ⌝ }
+// The lesser of a number and the report of window w, or the number where the window is silent.
+fn lesser(low: u32, w: u32, report: u32, silent: u32) -> u32
+    ensures { λ r. ⌜ r ≡ lesser low (saidBy silent w report) ⌝ }
 {
-    let mut low = reports[0];
-    let mut next = 1;
+    if journal::has(silent, w) {
+        return low;
+    }
+    if report < low { report } else { low }
+}
+
+// The least of L and the reports of the windows that are not silent.
+fn lowest(l: u32, reports: &[u32], silent: u32) -> Index
+    requires { ⌜ length (now reports) ≤ 16 ⌝ }
+    ensures { λ r. ⌜ r .0 ≡ lowest l (said silent (now (reports .entry))) ⌝ }
+{
+    let mut low = l;
+    let mut next = 0;
     while next < reports.len() {
-        let report = reports[next];
-        if report < low {
-            low = report;
-        }
+        let w = next as u32;
+        low = lesser(low, w, reports[next], silent);
         next += 1;
     }
     Index(low)
 }
 
-// Fresh windows from the reports, of which there are sixteen at most.
-fn windows_of(reports: &[u32]) -> [Window; 16]
+// Window w as Start leaves it.
+fn window_of(l: Index, w: u32, report: Index, silent: u32) -> Window
+    ensures { λ r. ⌜ r ≡ windowBy (l .0) (saidBy silent w (report .0)) ⌝ }
+{
+    if journal::has(silent, w) {
+        return Window::silent(l);
+    }
+    Window::started(report)
+}
+
+// The sixteen windows as Start leaves them: those from the number of reports up with a report of 0.
+fn windows_of(l: Index, reports: &[u32], silent: u32) -> [Window; 16]
     requires { ⌜ length (now reports) ≤ 16 ⌝ }
-    ensures { λ r. ⌜ r ≡ freshWindows (now (reports .entry)) ⌝ }
+    ensures { λ r. ⌜ r ≡ freshWindows (l .0) (said silent (now (reports .entry))) ⌝ }
 {
     let none = Window::started(Index(0));
     let mut windows = [none; 16];
     let mut next = 0;
     while next < reports.len() {
-        windows[next] = Window::started(Index(reports[next]));
+        let w = next as u32;
+        windows[next] = window_of(l, w, Index(reports[next]), silent);
         next += 1;
     }
     windows
 }
 
-// Start: 1, also where there are not exactly `count` reports; 13: a report that is not one of its window. Every window is fresh, those
-// from `count` up with a report of 0, and `current` is the least report. What the player held before is not read.
-pub fn start_on(player: Player, journal: &[u32], count: u32, limit: u32, reports: &[u32]) -> Played
-    ensures { λ r. ⌜ Starts player count limit (now (reports .entry)) r (startRule (now (journal .entry)) count limit (now (reports .entry)) (playerOf player)) ⌝ }
+// Start: 1, also where there are not exactly `count` reports; 13: a report that is not one of its window, unless the window is silent.
+// A window begins from its report, or as `Window::silent` has it; those from `count` up from a report of 0. `current` is the least report
+// of a window that is not silent, or L where all are. What the player held before is not read.
+pub fn start_on(
+    player: Player,
+    journal: &[u32],
+    count: u32,
+    limit: u32,
+    reports: &[u32],
+    silent: u32,
+) -> Played
+    ensures { λ r.
+        ⌜ Starts player (countOf (now (journal .entry))) count limit (said silent (now (reports .entry))) r
+        (startRule (now (journal .entry)) count limit (said silent (now (reports .entry))) (playerOf player)) ⌝ }
 {
     if !start_in_shape(journal, count, limit, reports) {
         return Played {
@@ -103,17 +136,18 @@ pub fn start_on(player: Player, journal: &[u32], count: u32, limit: u32, reports
             player,
         };
     }
-    if !are_reports(journal, reports) {
+    if !are_reports(journal, reports, silent) {
         return Played {
             answer: Answer::BadReport,
             player,
         };
     }
+    let l = journal::entries(journal) as u32;
     let fresh = Player {
         count,
         limit,
-        current: least(reports),
-        windows: windows_of(reports),
+        current: lowest(l, reports, silent),
+        windows: windows_of(Index(l), reports, silent),
     };
     Played {
         answer: Answer::Done,

@@ -7,8 +7,9 @@ use lib.ListN.{length, drop, replicate}
 use lib.Dec.{leb}
 use Rattle.journal.specs.Entry.{inShape, countOf}
 use Rattle.rules.specs.Shape.{countFits, limitFits}
-use Rattle.rules.specs.Rules.{Outcome, least}
-use Rattle.window.specs.Promise.{numberOf, freshWindow}
+use Rattle.rules.specs.Window.{Report}
+use Rattle.rules.specs.Rules.{Outcome, spoken, least}
+use Rattle.window.specs.Promise.{numberOf, freshWindow, windowBy}
 use Rattle.window.specs.declared.Window.{Window}
 use Rattle.player.specs.declared.Player.{Player}
 use Rattle.player.specs.declared.Played.{Played}
@@ -22,20 +23,25 @@ pub record Meets (before : Player) (r : Played) (o : Outcome) : Type 0 where
   pub unchanged : (o .answer ≡ 0 → ⊥) → r .player ≡ before
   pub above : drop (before .count) (r .player .windows) ≡ drop (before .count) (before .windows)
 
--- the sixteen windows of a fresh player: a fresh one for each report, and from W up fresh ones with a report of 0
-unfoldable pub freshWindows : List ℕ → List Window
-freshWindows reports = map freshWindow reports ++ replicate (16 - length reports) (freshWindow 0)
+-- the sixteen windows of a fresh player, with L: one for each report or silence, and from W up those of a report of 0
+unfoldable pub freshWindows : ℕ → List Report → List Window
+freshWindows l reports = map (windowBy l) reports ++ replicate (16 - length reports) (freshWindow 0)
 
 -- a fresh player, whole
-abbrev pub freshPlayer : ℕ → ℕ → List ℕ → Player
-freshPlayer count limit reports = record { count = count; limit = limit; current = record { 0 = least reports }; windows = freshWindows reports }
+abbrev pub freshPlayer : ℕ → ℕ → ℕ → List Report → Player
+freshPlayer l count limit reports = record {
+  count = count;
+  limit = limit;
+  current = record { 0 = least l (spoken reports) };
+  windows = freshWindows l reports;
+}
 
--- Start: its answer is the rule's; answered 0, the next state is a fresh player, whose view is the rule's; a refusal gives back the player
--- handed in
-pub record Starts (before : Player) (count limit : ℕ) (reports : List ℕ) (r : Played) (o : Outcome) : Type 0 where
+-- Start over a journal of l entries: its answer is the rule's; answered 0, the next state is a fresh player, whose view is the rule's; a
+-- refusal gives back the player handed in
+pub record Starts (before : Player) (l count limit : ℕ) (reports : List Report) (r : Played) (o : Outcome) : Type 0 where
   pub answer : numberOf (r .answer) ≡ o .answer
   pub next : playerOf (r .player) ≡ o .next
-  pub fresh : o .answer ≡ 0 → r .player ≡ freshPlayer count limit reports
+  pub fresh : o .answer ≡ 0 → r .player ≡ freshPlayer l count limit reports
   pub unchanged : (o .answer ≡ 0 → ⊥) → r .player ≡ before
 
 -- what the shape asks of the player's numbers and of the journal, beside each window

@@ -41,10 +41,10 @@ fn alone(window: Window, journal: &[u32], limit: u32) {
     show::out(&nines, 5);
 }
 
-// Start with the first `len` reports.
+// Start with the first `len` reports, and the set of silent windows before W.
 fn start(p: Player, journal: &[u32], n: Line, reports: &[u32], len: usize) -> Player {
     if len <= reports.len() {
-        return answered(operations::start_on(p, journal, n.c, n.d, &reports[0..len]));
+        return answered(operations::start_on(p, journal, n.c, n.d, &reports[0..len], n.b));
     }
     p
 }

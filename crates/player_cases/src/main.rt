@@ -11,7 +11,7 @@
 // | `r` | one more report for Start | `A` | Ack: window, term, index |
 // | `t` | the window that the letters below change | `D` | Drop: window |
 // | `i` | every window as this one is | `J` | Join: window, report |
-// | `h` | idle | `P` | Start: W, batch limit |
+// | `h` | idle | `P` | Start: the set of silent windows, W, batch limit |
 // | `l` | term, acknowledged, sent, and 1 for busy | `O` | Send at the window on its own, lent five numbers |
 // | `f` | Fetching: next, end | `I` | each operation at a window that no player has |
 // | `e` | Completed: end | `Z` | the same over a journal of so many zeros |

@@ -1,7 +1,7 @@
 -- For each list of steps there is a list of calls that meet their promises: demand 3 of the calls speaks of as many lists as demand 3 of
 -- the steps.
 use Prim.Native.Nat.{ℕ, _<_}
-use mathlib.Core.Path.{_≡_, refl, sym, ap, ap₂, subst, _∙_}
+use mathlib.Core.Path.{_≡_, refl, sym, ap₂, subst, _∙_}
 use mathlib.Core.Logic.{⊎-elim}
 use mathlib.Core.List.{List, [], _∷_, map}
 use mathlib.Core.Bool.{Bool, true, false, _&&_, false≢true}
@@ -12,13 +12,14 @@ use Rattle.lists.specs.Cases.{and-left, and-right, eq-or-ne, true-or-false}
 use Rattle.journal.specs.declared.Entry.{Entry}
 use Rattle.journal.specs.Entry.{countOf}
 use Rattle.rules.specs.declared.Term.{Term}
-use Rattle.rules.specs.Rules.{Outcome, startRule}
-use Rattle.rules.specs.Offers.{startNext, startRule-done, startRule-refuses}
+use Rattle.rules.specs.Window.{Report}
+use Rattle.rules.specs.Rules.{Outcome, said, startRule}
+use Rattle.rules.specs.Offers.{startRule-done, startRule-refuses}
 use Rattle.player.specs.declared.Player.{Player}
 use Rattle.player.specs.declared.Played.{Played}
-use Rattle.player.specs.View.{firstWindows, playerOf}
-use Rattle.player.specs.Promise.{freshWindows, freshPlayer, Starts}
-use Rattle.operations.specs.Starting.{freshWindows-shown}
+use Rattle.player.specs.View.{playerOf}
+use Rattle.player.specs.Promise.{freshPlayer, Starts}
+use Rattle.operations.specs.Starting.{freshPlayer-shown}
 use Rattle.delivery.specs.World.{World, Step, Reply, answered, empty, unmade, step}
 use Rattle.delivery.specs.World as W
 use Rattle.delivery.specs.Invariant.{Reached}
@@ -35,19 +36,12 @@ use Rattle.calls.specs.CallFor.{CallFor, call-main, call-catch, call-written, c
 -- Start
 
 -- what Start gives
-pub record StartGiven (before : Player) (ns : List ℕ) (count limit : ℕ) (reports : List ℕ) : Type 0 where
+pub record StartGiven (before : Player) (ns : List ℕ) (count limit : ℕ) (reports : List Report) : Type 0 where
   pub gave : Played
-  pub meets : Starts before count limit reports gave (startRule ns count limit reports (playerOf before))
-
-freshPlayer-shown : (count limit : ℕ) (reports : List ℕ) → length reports ≡ count →
-    playerOf (freshPlayer count limit reports) ≡ startNext limit reports
-unfolding playerOf
-freshPlayer-shown count limit reports e =
-    ap (λ ws. record { limit = limit; current = startNext limit reports .current; windows = ws })
-    (ap (λ n. firstWindows n (freshWindows reports)) (sym e) ∙ freshWindows-shown reports)
+  pub meets : Starts before (countOf ns) count limit reports gave (startRule ns count limit reports (playerOf before))
 
 -- A result to be read: whatever Start is handed, something can be given that meets its promise.
-pub start-given : (before : Player) (ns : List ℕ) (count limit : ℕ) (reports : List ℕ) → StartGiven before ns count limit reports
+pub start-given : (before : Player) (ns : List ℕ) (count limit : ℕ) (reports : List Report) → StartGiven before ns count limit reports
 start-given before ns count limit reports =
     let o : Outcome = startRule ns count limit reports (playerOf before) in
     let a = start-numbered ns count limit reports (playerOf before) in
@@ -55,10 +49,10 @@ start-given before ns count limit reports =
     (λ (z : o .answer ≡ 0).
     let d = startRule-done ns count limit reports (playerOf before) z in
     record {
-      gave = record { player = freshPlayer count limit reports; answer = a .answer };
+      gave = record { player = freshPlayer (countOf ns) count limit reports; answer = a .answer };
       meets = record {
         answer = a .number;
-        next = freshPlayer-shown count limit reports (d .given .each) ∙ sym (d .next);
+        next = freshPlayer-shown (countOf ns) count limit reports (d .given .each) ∙ sym (d .next);
         fresh = λ x. refl;
         unchanged = λ n. absurd (n z);
       };
@@ -74,10 +68,10 @@ start-given before ns count limit reports =
     })
     (eq-or-ne (o .answer) 0)
 
-call-start : (h : Host) (limit : ℕ) → CallFor h (W.start limit)
-call-start h limit =
-    let g = start-given (h .player) (h .journal) (length (h .windows)) limit (map reportOf (h .windows)) in
-    record { call = start limit (g .gave); same = refl; made = g .meets }
+call-start : (h : Host) (limit silent : ℕ) → CallFor h (W.start limit silent)
+call-start h limit silent =
+    let g = start-given (h .player) (h .journal) (length (h .windows)) limit (said silent (map reportOf (h .windows))) in
+    record { call = start limit silent (g .gave); same = refl; made = g .meets }
 
 -- ------------------------------------------------------------------------
 -- One step
@@ -115,7 +109,7 @@ module _ {h : Host} {wd : World} (is : Shows h wd) where
   call-for (W.late-ack w t i) made = call-late h w t i (late-made w t i made)
   call-for (W.drop w) made = call-drop h w
   call-for (W.join w) made = call-join h w
-  call-for (W.start limit) made = call-start h limit
+  call-for (W.start limit silent) made = call-start h limit silent
   call-for (W.append e) made = call-append h e (append-made e made)
 
 -- ------------------------------------------------------------------------

@@ -4,24 +4,22 @@ use mathlib.Core.Path.{_≡_, refl, ap, _∙_}
 use mathlib.Core.List.{List, [], _∷_, map}
 use mathlib.Core.Bool.{true, false}
 use native.Mathlib.Omega.{arith}
-use lib.ListN.{replicate}
 use Rattle.lists.specs.Cells.{front}
 use Rattle.journal.specs.Entry.{entry4, entriesOf}
 use Rattle.queue.specs.Items.{itemsOf, batchesOf}
-use Rattle.rules.specs.Rules.{startRule}
 use Rattle.window.specs.declared.Answer.the-variants.{Done}
 use Rattle.window.specs.View.{viewOf}
 use Rattle.player.specs.declared.Player.{Player}
 use Rattle.player.specs.declared.Played.{Played}
 use Rattle.player.specs.View.{firstWindows, playerOf}
-use Rattle.player.specs.Promise.{freshWindows, freshPlayer, Starts}
+use Rattle.player.specs.Promise.{freshWindows, freshPlayer}
 use Rattle.delivery.specs.World.{World, sideAt, Step, main, catch, written, send, take, ack, late-ack, drop, join, start, append, answered, run, replies}
 use Rattle.delivery.specs.World as W
-use Rattle.delivery.specs.Statement.{firstStart}
+use Rattle.delivery.specs.Statement.{newReports, firstStart}
 use Rattle.delivery.specs.Demand3.{opened-reached}
 use Rattle.delivery.specs.Examples.{computed, done, term, room}
 use Rattle.calls.specs.Host.{Host, endAt, Call, MadeAll, batchIn, hostAfter, opened}
-use Rattle.calls.specs.Statement.{Leading, Delivers}
+use Rattle.calls.specs.Statement.{Leading, Delivers, FirstStart}
 use Rattle.calls.specs.Shows.{endOf, shows-end}
 use Rattle.calls.specs.Steps.{callStep}
 use Rattle.calls.specs.Runs.{hostAfter-shows}
@@ -42,19 +40,19 @@ journal3 = 3 ∷ 1 ∷ 1 ∷ 50400 ∷ 1 ∷ 2 ∷ 1 ∷ 350 ∷ 2 ∷ 3 ∷ 1 �
 
 -- what the Start gives
 abbrev pub begun : Played
-begun = record { player = freshPlayer 2 2 (replicate 2 0); answer = Done }
+begun = record { player = freshPlayer 3 2 2 (newReports 0 2); answer = Done }
 
 abbrev pub host0 : Host
 host0 = opened (begun .player) journal3 2
 
 -- a batch of two taken, its first entry acknowledged by itself, and the line dropped before the ack of the second; that ack is refused,
 -- the window joins, and the ack comes late and is refused again; one more entry is appended, read, sent, taken and acknowledged; nothing
--- is to be fetched; the player starts anew
+-- is to be fetched; the player starts anew, with window 1 silent, which joins and fetches the first entry
 abbrev pub everyKind : List Step
 everyKind =
     main 1 ∷ main 2 ∷ send 0 room ∷ take 0 true ∷ ack 0 ∷ take 0 false ∷ drop 0 ∷ ack 0 ∷ join 0 ∷ late-ack 0 (term 1) 2
     ∷ append (entry4 1 2 1 400) ∷ main 3 ∷ main 4 ∷ send 0 room ∷ written 0 (term 2) ∷ take 0 false ∷ ack 0
-    ∷ catch 0 (term 2) 4 ∷ start 2 ∷ []
+    ∷ catch 0 (term 2) 4 ∷ start 2 2 ∷ join 1 ∷ catch 1 (term 2) 1 ∷ []
 
 -- what window 0 has then taken
 abbrev pub taken0 : List (List ℕ)
@@ -62,27 +60,27 @@ taken0 = (1 ∷ 3 ∷ 1 ∷ 1 ∷ 50400 ∷ []) ∷ (2 ∷ 1 ∷ 2 ∷ 1 ∷ 350
 
 module _ (before : Player) where
   -- the Start meets its promise and is answered 0
-  pub begun-starts : Starts before 2 2 (replicate 2 0) begun (startRule journal3 2 2 (replicate 2 0) (playerOf before))
+  pub begun-starts : FirstStart before journal3 2 2 0 begun
   unfolding computed playerOf firstWindows freshWindows viewOf itemsOf batchesOf front
   begun-starts = record { answer = refl; next = refl; fresh = λ z. refl; unchanged = λ n. absurd (n refl) }
 
   -- the world that the host shows
   abbrev pub world0 : World
-  world0 = W.opened (entriesOf journal3) (firstStart (playerOf before) (entriesOf journal3) 2 2)
+  world0 = W.opened (entriesOf journal3) (firstStart (playerOf before) (entriesOf journal3) 2 2 0)
 
   -- what the steps answer, all of which are made, and what window 0 has taken
   pub record Computed : Type 0 where
     pub all : allMade world0 everyKind ≡ true
     pub answers : replies world0 everyKind ≡
         done ∷ done ∷ done ∷ done ∷ done ∷ done ∷ done ∷ answered 3 ∷ done ∷ answered 5
-        ∷ done ∷ done ∷ done ∷ done ∷ done ∷ done ∷ done ∷ answered 4 ∷ done ∷ []
+        ∷ done ∷ done ∷ done ∷ done ∷ done ∷ done ∷ done ∷ answered 4 ∷ done ∷ done ∷ done ∷ []
     pub taken : endOf (sideAt 0 (run world0 everyKind)) .taken ≡ taken0
 
   pub every-kind : Computed
   unfolding computed allMade
   every-kind = record { all = refl; answers = refl; taken = refl }
 
-  first-done : firstStart (playerOf before) (entriesOf journal3) 2 2 .answer ≡ 0
+  first-done : firstStart (playerOf before) (entriesOf journal3) 2 2 0 .answer ≡ 0
   unfolding computed
   first-done = refl
 
@@ -93,14 +91,14 @@ module _ (before : Player) where
     pub made : MadeAll host0 calls
     pub taken : endAt 0 (hostAfter host0 calls) .taken ≡ taken0
     pub leading : Leading (hostAfter host0 calls .journal) 0 (endAt 0 (hostAfter host0 calls))
-    pub delivers : Delivers 2 host0 calls
+    pub delivers : Delivers 2 0 host0 calls
 
   pub ran : Ran
   ran =
-      let shows = opened-shows before journal3 2 2 begun begun-starts refl in
-      let reached = opened-reached (playerOf before) (entriesOf journal3) 2 2 first-done in
+      let shows = opened-shows before journal3 2 2 0 begun begun-starts refl in
+      let reached = opened-reached (playerOf before) (entriesOf journal3) 2 2 0 first-done in
       let c : CallsFor host0 everyKind = calls-for shows reached everyKind (every-kind .all) in
-      let delivers = demand-3-calls before journal3 2 2 begun begun-starts refl (c .calls) (c .made) in
+      let delivers = demand-3-calls before journal3 2 2 0 begun begun-starts refl (c .calls) (c .made) in
       record {
         calls = c .calls;
         steps = c .same;

@@ -1,17 +1,15 @@
 -- The laws of Drop: its refusals, what it does at one window, and the rule.
 use Prim.Native.Nat.{ℕ}
-use mathlib.Core.Path.{_≡_, refl}
+use mathlib.Core.Path.{_≡_}
 use mathlib.Core.List.{List, [], _∷_}
 use mathlib.Core.Bool.{false}
-use native.Mathlib.Omega.{arith}
-use Rattle.lists.specs.All.{all}
 use Rattle.lists.specs.Refusal.{_when_, firstOf}
 use Rattle.rules.specs.View.{WindowView, PlayerView}
 use Rattle.rules.specs.Window.{isSuspended, dropped, dropAt}
 use Rattle.rules.specs.Rules.{dropRule, windowAt}
 use Rattle.rules.specs.Refusals.{outOfShape, noSuchWindow, check-answer, operate-answer}
 use Rattle.rules.specs.Checks.{Decides, done-decides, check-decides}
-use Rattle.rules.specs.Shaped.{WindowShaped}
+use Rattle.rules.specs.Parts.{away-shaped}
 use Rattle.rules.specs.Operate.{Lawful, decides-lawful, Effect, LawfulRule, operate-lawful}
 
 -- ------------------------------------------------------------------------
@@ -39,29 +37,10 @@ pub record DroppedOff (v : WindowView) : Type 0 where
   pub here : isSuspended (v .condition) ≡ false
   pub next : dropAt v .next ≡ dropped v
 
--- the window stays in shape
-dropped-shaped : {l c : ℕ} {v : WindowView} → WindowShaped l c v → WindowShaped l c (dropped v)
-unfolding all
-dropped-shaped s =
-    record {
-      normalFits = omega arith;
-      catchFits = omega arith;
-      batchesFit = omega arith;
-      normalIn = refl;
-      catchIn = refl;
-      ackedIn = s .ackedIn;
-      sentIn = s .sentIn;
-      batchesIn = refl;
-      conditionIn = refl;
-      next = refl;
-      end = refl;
-      catchUp = refl;
-      away = refl;
-    }
-
 dropAt-lawful : (c : ℕ) (v : WindowView) → Lawful c v (dropAt v) (DroppedOff v) (λ d. dropped v)
 dropAt-lawful c v =
-    decides-lawful (dropAt-decides v) (λ (here, _) next. record { here = here; next = next }) (λ d l most s. dropped-shaped s)
+    decides-lawful (dropAt-decides v) (λ (here, _) next. record { here = here; next = next })
+    (λ d l most s. away-shaped v (s .ackedIn) (s .sentIn))
 
 -- ------------------------------------------------------------------------
 -- the rule

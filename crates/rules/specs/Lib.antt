@@ -17,6 +17,9 @@ pub mod Written
 pub mod Ack
 pub mod Drop
 pub mod Join
+pub mod Said
 pub mod Start
+pub mod Speaking
+pub mod Late
 pub mod Append
 pub mod Offers

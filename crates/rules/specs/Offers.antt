@@ -25,7 +25,8 @@ pub use Rattle.rules.specs.Ack.{ackRule-refusals, acknowledged-leaves, a
 pub use Rattle.rules.specs.Drop.{dropRule-refusals, dropEffect, dropRule-lawful}
 -- Join: what its answer 0 tells; when it is answered 0.
 pub use Rattle.rules.specs.Join.{joinRule-refusals, joinEffect, joinRule-lawful, joinRule-done, joinRule-can}
--- Start: the least report; the player that it makes; what its answer 0 tells; the shape.
-pub use Rattle.rules.specs.Start.{startRule-refusals, least-le, least-some, startNext, startNext-at, StartDone, startRule-done, startRule-refuses, start-shaped}
+-- Start: what it is told; the least report; the player that it makes; what its answer 0 tells; the shape.
+pub use Rattle.rules.specs.Said.{said-length, said-at, said-unread, areReports-le, least-le}
+pub use Rattle.rules.specs.Start.{startRule-refusals, startNext, startNext-at, StartDone, startRule-done, startRule-refuses, start-shaped}
 -- An append: the shape.
 pub use Rattle.rules.specs.Append.{append-shaped}

@@ -11,7 +11,7 @@ use Rattle.lists.specs.Cases.{and-left, and-right, and-intro}
 use Rattle.lists.specs.All.{all, queuedIn, heldIn, all-append, all-drop, all-weaken}
 use Rattle.rules.specs.View.{Condition, normal, fetching, completed, suspended, WindowView}
 use Rattle.rules.specs.Shape.{isEmpty, conditionHeld, nextFits, endFits, catchUpFits, suspendedFits}
-use Rattle.rules.specs.Window.{isSuspended}
+use Rattle.rules.specs.Window.{isSuspended, dropped}
 use Rattle.rules.specs.Shaped.{WindowShaped}
 
 -- ------------------------------------------------------------------------
@@ -124,6 +124,26 @@ here-shaped {v = v} n q h s =
       end = s .end;
       catchUp = s .catchUp;
       away = suspendedFits-here v (v .condition) (s .here);
+    }
+
+-- a Suspended window with nothing queued or unacknowledged is in shape where its acknowledged and sent indices are
+pub away-shaped : {l c : ℕ} (v : WindowView) → v .acked ≤ l → v .sent ≤ l → WindowShaped l c (dropped v)
+unfolding all
+away-shaped v acked sent =
+    record {
+      normalFits = omega arith;
+      catchFits = omega arith;
+      batchesFit = omega arith;
+      normalIn = refl;
+      catchIn = refl;
+      ackedIn = acked;
+      sentIn = sent;
+      batchesIn = refl;
+      conditionIn = refl;
+      next = refl;
+      end = refl;
+      catchUp = refl;
+      away = refl;
     }
 
 -- a window with an unacknowledged batch is not Suspended

@@ -1,16 +1,16 @@
--- Document 01, "Operations of the player", with document 02's Ack: the shape, then the window, then the window's rule. A promise is an
--- equation with one of these.
+-- Document 01, "Operations of the player", with document 02's Ack and Start: the shape, then the window, then the window's rule. A promise
+-- is an equation with one of these.
 use Prim.Native.Nat.{ℕ, suc, _+_, min}
 use mathlib.Core.List.{List, [], _∷_, _++_, map}
 use mathlib.Core.Bool.{Bool, true, not, cond, _&&_}
 use lib.ListN.{length, getD, set, drop}
 use lib.Dec.{leb, ltb, eqb}
 use Rattle.journal.specs.declared.Entry.{Entry}
-use Rattle.journal.specs.Entry.{inShape, countOf, entriesOf, placedAt, fiveOf}
+use Rattle.journal.specs.Entry.{inShape, countOf, entriesOf, placedAt, fiveOf, hasWindow}
 use Rattle.rules.specs.declared.Term.{Term}
 use Rattle.rules.specs.View.{WindowView, PlayerView, noWindow}
 use Rattle.rules.specs.Shape.{countFits, limitFits, shape}
-use Rattle.rules.specs.Window.{Turn, mainAt, catchAt, batchOf, sendAt, writtenAt, ackAt, dropAt, joinAt, isReport, started}
+use Rattle.rules.specs.Window.{Turn, mainAt, catchAt, batchOf, sendAt, writtenAt, ackAt, dropAt, joinAt, isReport, Report, told, silence, startedBy}
 
 -- an answer and the player as it then is
 pub record Outcome : Type 0 where
@@ -89,26 +89,57 @@ sendOutput ns w out p =
     cond (eqb (sendRule ns w (length out) p .answer) 0) (sent ++ drop (length sent) out) out
 
 -- ------------------------------------------------------------------------
--- Start: W, the batch limit and a report from each window; what the player held before is not read
+-- Start: W, the batch limit, and from each window its report or silence; what the player held before is not read
 
--- a report that Start takes: at most L, and 0 or the index of an entry for the window
-abbrev pub isStartReport : List Entry → ℕ → ℕ → Bool
-isStartReport j w r = leb r (length j) && isReport j w r
+-- a window speaks if the set of silent windows does not have it
+abbrev pub speaks : ℕ → ℕ → Bool
+speaks silent w = not (hasWindow w silent)
 
--- each report is one, from window w on
-unfoldable pub areReports : List Entry → ℕ → List ℕ → Bool
+-- what is said of window w: a silent window's report is not looked at
+abbrev pub saidBy : ℕ → ℕ → ℕ → Report
+saidBy silent w r = cond (speaks silent w) (told r) silence
+
+-- what a set of silent windows and the reports of all windows stand for, from window w on
+unfoldable pub saidFrom : ℕ → ℕ → List ℕ → List Report
+saidFrom silent w [] = []
+saidFrom silent w (r ∷ rs) = saidBy silent w r ∷ saidFrom silent (suc w) rs
+
+abbrev pub said : ℕ → List ℕ → List Report
+said silent reports = saidFrom silent 0 reports
+
+-- what Start takes of window w: a report that is at most L, and 0 or the index of an entry for the window; and silence
+abbrev pub isStartReport : List Entry → ℕ → Report → Bool
+isStartReport j w (told r) = leb r (length j) && isReport j w r
+isStartReport j w silence = true
+
+-- it takes what it gets of each window, from window w on
+unfoldable pub areReports : List Entry → ℕ → List Report → Bool
 areReports j w [] = true
 areReports j w (r ∷ rs) = isStartReport j w r && areReports j (suc w) rs
 
--- the least of some numbers
-unfoldable pub least : List ℕ → ℕ
-least [] = 0
-least (r ∷ []) = r
-least (r ∷ s ∷ rs) = min r (least (s ∷ rs))
+-- the reports of the windows that are not silent
+unfoldable pub spoken : List Report → List ℕ
+spoken [] = []
+spoken (told r ∷ rs) = r ∷ spoken rs
+spoken (silence ∷ rs) = spoken rs
 
--- 1, also if there are not exactly W reports. 13: a report above L, or not 0 and not the index of an entry for that window
-unfoldable pub startRule : List ℕ → ℕ → ℕ → List ℕ → PlayerView → Outcome
+-- the least of some numbers, or l where there are none
+unfoldable pub least : ℕ → List ℕ → ℕ
+least l [] = l
+least l (r ∷ []) = r
+least l (r ∷ s ∷ rs) = min r (least l (s ∷ rs))
+
+-- W, the batch limit and the journal are in shape, and there are exactly W reports, n being their number
+abbrev pub startFits : List ℕ → ℕ → ℕ → ℕ → Bool
+startFits ns count limit n = countFits count && (limitFits limit && (inShape ns && eqb n count))
+
+-- 1, also if there are not exactly W reports. 13: a report above L, or not 0 and not the index of an entry for that window. `current` is
+-- the least report, or L if all windows are silent
+unfoldable pub startRule : List ℕ → ℕ → ℕ → List Report → PlayerView → Outcome
 startRule ns count limit reports p =
-    cond (not (countFits count && (limitFits limit && (inShape ns && eqb (length reports) count)))) (refuse 1 p)
+    cond (not (startFits ns count limit (length reports))) (refuse 1 p)
     (cond (not (areReports (entriesOf ns) 0 reports)) (refuse 13 p)
-    (record { answer = 0; next = record { limit = limit; current = least reports; windows = map started reports } }))
+    (record {
+      answer = 0;
+      next = record { limit = limit; current = least (countOf ns) (spoken reports); windows = map (startedBy (countOf ns)) reports };
+    }))

@@ -71,7 +71,7 @@ pub record LeadingRecord (j : List Entry) (w : ℕ) (s : Stage) : Type 0 where
 module _ (ns : List ℕ) (count : ℕ) (before : PlayerView) (ok : openedBy ns count .ok ≡ true) (t : Stage) (sts : List Step) (rs : List Reply)
     (script : Script ns (openedBy ns count .stage) sts rs t) where
   abbrev first : World
-  first = opened (entriesOf ns) (firstStart before (entriesOf ns) count 2)
+  first = opened (entriesOf ns) (firstStart before (entriesOf ns) count 2 0)
 
   abbrev last : World
   last = W.run first (stepsIn first sts)
@@ -109,7 +109,7 @@ module _ (ns : List ℕ) (count : ℕ) (before : PlayerView) (ok : openedBy ns c
   unfolding worldOf forgotten
   script-delivers w below =
       let journal : entriesOf ns ≡ last .journal = ap (λ x. x .journal) (followed .shows .world) in
-      let leading = demand-3 before (entriesOf ns) count 2 (stepsIn first sts) (openedBy-done ns count before ok) .leading w below in
+      let leading = demand-3 before (entriesOf ns) count 2 0 (stepsIn first sts) (openedBy-done ns count before ok) .leading w below in
       record {
         k = leading .k;
         folded =

@@ -7,7 +7,7 @@ use mathlib.Core.List.{List, [], _∷_, _++_, map-append, append-assoc}
 use mathlib.Core.Bool.{Bool, true, false, not, cond, true≢false, false≢true}
 use native.Mathlib.Omega.{arith}
 use borrow.Author.Tests.{not-true}
-use lib.ListN.{length, replicate, length-append, length-map, List·getD-map}
+use lib.ListN.{length, length-append, length-map, List·getD-map}
 use lib.Dec.{eqb, ltb}
 use Rattle.journal.specs.declared.Entry.{Entry}
 use Rattle.lists.specs.Set.{getD-set-each}
@@ -22,7 +22,7 @@ use Rattle.rules.specs.Offers.{acknowledged-oldest}
 use Rattle.delivery.specs.World.{Sent, Ack, Side, World, noSide, sideAt, numbersIn, playerIn, withView, withLines, withPlayer, withSide, onLine}
 use Rattle.delivery.specs.World.{takeFront, answered, calledThen, launch, takeAtLine, ackAtLine, cleared, newSide, opened}
 use Rattle.delivery.specs.World as W
-use Rattle.delivery.specs.Statement.{firstStart}
+use Rattle.delivery.specs.Statement.{newReports, firstStart}
 use Rattle.delivery.specs.Invariant.{backIndices, endsOf, Inv, Reached}
 use Rattle.delivery.specs.Lines.{endsOf-append, onLine-ends, unacked-none}
 use Rattle.delivery.specs.KeepSend.{launchedSide}
@@ -191,7 +191,7 @@ scripted (W.ack w) = true
 scripted (W.late-ack w t i) = false
 scripted (W.drop w) = true
 scripted (W.join w) = true
-scripted (W.start b) = false
+scripted (W.start b silent) = false
 scripted (W.append e) = false
 
 pub stepIn-scripted : (wd : World) (s : Step) → scripted (stepIn wd s) ≡ true
@@ -214,7 +214,7 @@ scripted-acks (W.ack w) e = refl
 scripted-acks (W.late-ack w t i) e = refl
 scripted-acks (W.drop w) e = refl
 scripted-acks (W.join w) e = refl
-scripted-acks (W.start b) e = refl
+scripted-acks (W.start b silent) e = refl
 scripted-acks (W.append x) e = refl
 
 -- a side replaced
@@ -248,7 +248,7 @@ module _ (wd : World) (s : W.Step) (is : scripted s ≡ true) (r : Roomy wd) whe
       after-side v _ _ l e (record { pairs = q .pairs; unacked = λ h. absurd (true≢false h); batches = q .batches })
   roomy-facts (joining v same done l away e shaped) =
       after-side v _ _ l e (record { pairs = none; unacked = λ h. r .reached .each v l .unacked .noBatches away; batches = omega arith })
-  roomy-facts (starting b same done k) = absurd (true≢false (sym is ∙ ap scripted same))
+  roomy-facts (starting b silent same done k) = absurd (true≢false (sym is ∙ ap scripted same))
   roomy-facts (appending x same done few e) = absurd (true≢false (sym is ∙ ap scripted same))
 
 -- ------------------------------------------------------------------------
@@ -296,7 +296,7 @@ step-limit wd (W.join w) e =
     (λ x. withSide w (cleared (sideAt w x)) x) wd (λ x. refl)
     ∙ operate-limit (numbersIn wd) w (λ v. joinAt (entriesOf (numbersIn wd)) w (wd .current) (sideAt w wd .record′ .last .0) v)
     (playerIn wd)
-step-limit wd (W.start b) e = absurd (false≢true e)
+step-limit wd (W.start b silent) e = absurd (false≢true e)
 step-limit wd (W.append x) e = absurd (false≢true e)
 
 -- ------------------------------------------------------------------------
@@ -319,22 +319,22 @@ unfolding endsOf
 roomy-new v inv = record { pairs = none; unacked = λ h. unacked-none (inv .unacked); batches = omega arith }
 
 -- the opening: a reachable world with the batch limit 2 and empty lines
-pub roomy-opened : (before : PlayerView) (j : List Entry) (count : ℕ) → firstStart before j count 2 .answer ≡ 0 →
-    Roomy (opened j (firstStart before j count 2))
+pub roomy-opened : (before : PlayerView) (j : List Entry) (count : ℕ) → firstStart before j count 2 0 .answer ≡ 0 →
+    Roomy (opened j (firstStart before j count 2 0))
 unfolding opened
 roomy-opened before j count done = record {
-  reached = opened-reached before j count 2 done;
+  reached = opened-reached before j count 2 0 done;
   limit =
-      let d : firstStart before j count 2 .next .limit ≡ 2
-      = ap (λ q. q .limit) (startRule-done (numbersOf j) count 2 (replicate count 0) before done .next) in
+      let d : firstStart before j count 2 0 .next .limit ≡ 2
+      = ap (λ q. q .limit) (startRule-done (numbersOf j) count 2 (newReports 0 count) before done .next) in
       rw d (omega arith);
   each = λ w h.
-      let is = List·getD-map newSide (firstStart before j count 2 .next .windows) w noWindow in
-      subst⁻¹ RoomySide is (roomy-new _ (subst (Inv j _ w) is (opened-reached before j count 2 done .each w h)));
+      let is = List·getD-map newSide (firstStart before j count 2 0 .next .windows) w noWindow in
+      subst⁻¹ RoomySide is (roomy-new _ (subst (Inv j _ w) is (opened-reached before j count 2 0 done .each w h)));
 }
 
 -- in every world that a script reaches from there, each line has room
-pub room : (before : PlayerView) (j : List Entry) (count : ℕ) → firstStart before j count 2 .answer ≡ 0 → (ss : List Step) →
-    let first : World = opened j (firstStart before j count 2) in
+pub room : (before : PlayerView) (j : List Entry) (count : ℕ) → firstStart before j count 2 0 .answer ≡ 0 → (ss : List Step) →
+    let first : World = opened j (firstStart before j count 2 0) in
     Roomy (W.run first (stepsIn first ss))
-room before j count done ss = roomy-run (opened j (firstStart before j count 2)) ss (roomy-opened before j count done)
+room before j count done ss = roomy-run (opened j (firstStart before j count 2 0)) ss (roomy-opened before j count done)

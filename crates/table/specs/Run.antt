@@ -35,7 +35,7 @@ pub record PrintsA (replies : List W.Reply) (record0 record1 : Record) : Type 0 
 
 -- `windows 2` and the journal: the world that the stage is opened on, whatever a player held before
 abbrev pub afternoonWorld : PlayerView → World
-afternoonWorld before = opened afternoon (firstStart before afternoon 2 2)
+afternoonWorld before = opened afternoon (firstStart before afternoon 2 2 0)
 
 -- by the rules
 abbrev pub RunA : PlayerView → Type 0

@@ -2,14 +2,17 @@
 use Prim.Native.Nat.{ℕ}
 use mathlib.Core.Path.{_≡_}
 use mathlib.Core.Bool.{false}
+use Rattle.journal.specs.declared.Index.{Index}
 use Rattle.queue.specs.Items.{freshQueue, freshBatches}
 use Rattle.window.specs.declared.Answer.{Answer}
 use Rattle.window.specs.declared.Answer.the-variants.{Done, OutOfShape, NoSuchWindow, Suspended, NothingToRead, OtherTerm, OtherIndex, NothingReady, LineState, TooManyBatches, CatchUpFull, BadAck, NotSuspended, BadReport, LastTerm, OutputTooShort}
+use Rattle.window.specs.declared.Condition.{Condition}
 use Rattle.window.specs.declared.Condition.the-variants.{Normal}
+use Rattle.window.specs.declared.Condition.the-variants as Held
 use Rattle.window.specs.declared.Window.{Window}
 use Rattle.window.specs.declared.Turned.{Turned}
 use Rattle.window.specs.View.{viewOf}
-use Rattle.rules.specs.Window.{Turn}
+use Rattle.rules.specs.Window.{Turn, Report, told, silence}
 
 abbrev pub numberOf : Answer → ℕ
 numberOf Done = 0
@@ -36,17 +39,29 @@ pub record MeetsWindow (before : Window) (r : Turned) (t : Turn) : Type 0 where
   pub next : viewOf (r .window) ≡ t .next
   pub unchanged : (t .answer ≡ 0 → ⊥) → r .window ≡ before
 
--- a fresh window, whole: Normal, on its first term, the line free, acknowledged and sent its report, 128 zeros in each queue
-abbrev pub freshWindow : ℕ → Window
-freshWindow r = record {
+-- a window as Start leaves it, whole: on its first term, the line free, 128 zeros in each queue
+abbrev pub windowAtStart : Index → Index → Condition → Window
+windowAtStart acked sent condition = record {
   head = record {
     term = record { 0 = 1 };
-    acked = record { 0 = r };
-    sent = record { 0 = r };
+    acked = acked;
+    sent = sent;
     busy = false;
     batches = freshBatches;
-    condition = Normal;
+    condition = condition;
   };
   normal = freshQueue;
   «catch_up» = freshQueue;
 }
+
+-- one that has a report is Normal, acknowledged and sent the report
+abbrev pub freshWindow : ℕ → Window
+freshWindow r = windowAtStart (record { 0 = r }) (record { 0 = r }) Normal
+
+-- a silent one is Suspended, acknowledged 0 and sent L
+abbrev pub silentWindow : ℕ → Window
+silentWindow l = windowAtStart (record { 0 = 0 }) (record { 0 = l }) Held.Suspended
+
+abbrev pub windowBy : ℕ → Report → Window
+windowBy l (told r) = freshWindow r
+windowBy l silence = silentWindow l

@@ -1,9 +1,13 @@
 -- Each way out has the outcomes of the checks before it; the player made is a fresh one, part by part.
 use mathlib.Core.Path.{_≡_, sym, _∙_}
 use mathlib.Core.Bool.{true}
+use native.Mathlib.Omega.{arith}
+use lib.ListN.{length}
 use borrow.Author.Needs.{needs}
 use borrow.Author.Tests.{not-true, not-false}
-use Rattle.operations.specs.Starting.{startFits}
+use Rattle.journal.specs.Entry.{entriesOf}
+use Rattle.rules.specs.Rules.{said, areReports, startFits}
+use Rattle.rules.specs.Offers.{said-length}
 use Rattle.operations.proofs.Started.{Counted, counted, start-shapeless, start-refused, start-done, started-player}
 use Rattle.operations.proofs.start.start_on.Statement.{statement}
 use Rattle.operations.proofs.start.start_on.Tie as tie
@@ -11,37 +15,55 @@ use Rattle.operations.proofs.start.start_on.Tie as tie
 -- the first checks pass
 fit : (c : tie.Else1) →
     let args = c .before .before .before .before .args in
-    startFits (args .journal .now) (args .count) (args .limit) (args .reports .now) ≡ true
+    startFits (args .journal .now) (args .count) (args .limit) (length (args .reports .now)) ≡ true
 fit c = sym (c .before .start-in-shape .ensures) ∙ not-false _ (c .if1 .left)
 
-few : (c : tie.Else1) → let args = c .before .before .before .before .args in Counted (args .count) (args .reports .now)
-few c = let args = c .before .before .before .before .args in counted (args .journal .now) _ (args .limit) _ (fit c)
+few : (c : tie.Else1) →
+    let args = c .before .before .before .before .args in
+    Counted (args .journal .now) (args .count) (length (args .reports .now))
+few c = let args = c .before .before .before .before .args in counted _ _ (args .limit) _ (fit c)
+
+-- what is said of the windows passes too
+right : (c : tie.Else2) →
+    let args = c .before .before .before .before .before .before .args in
+    areReports (entriesOf (args .journal .now)) 0 (said (args .silent) (args .reports .now)) ≡ true
+right c = sym (c .before .are-reports .ensures) ∙ not-false _ (c .if2 .left)
 
 start-in-shape-requires : tie.Need-start-in-shape-requires
 start-in-shape-requires c κs = search needs
 
 returns : tie.Need-returns
-returns c = start-shapeless _ _ _ _ _ (sym (c .before .start-in-shape .ensures) ∙ not-true _ (c .if1 .taken))
+returns c =
+    start-shapeless _ _ _ _ _ (rw said-length (sym (c .before .start-in-shape .ensures) ∙ not-true _ (c .if1 .taken)))
 
 are-reports-requires : tie.Need-are-reports-requires
 are-reports-requires c κs = few c .few
 
 returns-2 : tie.Need-returns-2
 returns-2 c =
-    start-refused _ _ _ _ _ (fit (c .before .before)) (sym (c .before .are-reports .ensures) ∙ not-true _ (c .if2 .taken))
+    start-refused _ _ _ _ _ (rw said-length (fit (c .before .before)))
+    (sym (c .before .are-reports .ensures) ∙ not-true _ (c .if2 .taken))
 
-least-requires : tie.Need-least-requires
-least-requires c κs = few (c .before .before) .some
+entries-requires : tie.Need-entries-requires
+entries-requires c κs = search needs
+
+cast-l : tie.Need-cast-l
+cast-l c =
+    let most = few (c .before .before .before) .entries in
+    record { fits = rw (c .entries .ensures) (omega arith) }
+
+lowest-requires : tie.Need-lowest-requires
+lowest-requires c κs = few (c .before .before .before) .few
 
 windows-of-requires : tie.Need-windows-of-requires
-windows-of-requires c κs = few (c .before .before .before) .few
+windows-of-requires c κs = few (c .before .before .before .before) .few
 
 returns-3 : tie.Need-returns-3
 returns-3 c =
-    let own = c .before .before in
-    let fitted = own .before .before in
-    start-done _ _ _ _ _ (fit fitted) (sym (own .before .are-reports .ensures) ∙ not-false _ (own .if2 .left)) _
-    (started-player _ _ (c .before .least .ensures) (c .windows-of .ensures))
+    let own = c .before .before .before in
+    let l = c .before .before .entries .ensures in
+    start-done _ _ _ _ _ (rw said-length (fit (own .before .before))) (right own) _
+    (started-player _ _ _ (right own) (rw l at (c .before .lowest .ensures)) (rw l at (c .windows-of .ensures)))
 
 pub start-on-spec : {M : Type 1} → statement M
 start-on-spec =
@@ -51,6 +73,8 @@ start-on-spec =
     returns
     are-reports-requires
     returns-2
-    least-requires
+    entries-requires
+    cast-l
+    lowest-requires
     windows-of-requires
     returns-3)
