@@ -27,7 +27,7 @@ use Rattle.delivery.specs.Worlds.{entries-in, count-in}
 use Rattle.delivery.specs.Reach.{reached-run}
 use Rattle.delivery.specs.Demand3.{opened-reached, demand-3}
 use Rattle.calls.specs.Host.{Host, newEnd, endAt, Call, MadeAll, hostAfter, opened}
-use Rattle.calls.specs.Statement.{joinedAfter, Leading, Delivers, FirstStart, Demand3Calls}
+use Rattle.calls.specs.Statement.{joinedAfter, NoneCan, Leading, Delivers, FirstStart, Demand3Calls}
 use Rattle.calls.specs.Shows.{endOf, Shows, shows-end}
 use Rattle.calls.specs.Steps.{callStep}
 use Rattle.calls.specs.Runs.{hostAfter-shows, changes-steps, joinedAfter-steps}
@@ -37,8 +37,11 @@ use Rattle.calls.specs.NoneCan.{none-steps}
 -- What the world has, the host has
 
 module _ {h : Host} {wd : World} (is : Shows h wd) where
-  entries-shown : entriesOf (h .journal) ≡ wd .journal
+  pub entries-shown : entriesOf (h .journal) ≡ wd .journal
   entries-shown = ap entriesOf (is .journal) ∙ entries-in wd
+
+  pub length-shown : countOf (h .journal) ≡ length (wd .journal)
+  length-shown = ap countOf (is .journal) ∙ count-in wd
 
   leading-shown : (w : ℕ) → Delivery.Leading (wd .journal) w (sideAt w wd) → Leading (h .journal) w (endAt w h)
   leading-shown w l = record {
@@ -56,19 +59,23 @@ module _ (count : ℕ) {h : Host} {wd : World} (is : Shows h wd) (reached : Reac
   shown : Shows (hostAfter h calls) (run wd steps)
   shown = hostAfter-shows is reached calls made
 
+  pub joined-shown : (silent : ℕ) → ((w : ℕ) → w < count → joinedAfter w (speaks silent w) calls ≡ true) →
+      (w : ℕ) → w < count → Delivery.joinedAfter w (speaks silent w) wd steps ≡ true
+  joined-shown silent joined w l = sym (joinedAfter-steps w (speaks silent w) is reached calls made) ∙ joined w l
+
+  pub none-shown : NoneCan (hostAfter h calls) → Delivery.NoneCan (run wd steps)
+  none-shown = none-steps shown (reached-run wd steps reached)
+
   delivers-shown : (silent : ℕ) → Delivery.Delivers count silent wd steps → Delivers count silent h calls
   delivers-shown silent d =
-      let joined : ((w : ℕ) → w < count → joinedAfter w (speaks silent w) calls ≡ true) →
-      (w : ℕ) → w < count → Delivery.joinedAfter w (speaks silent w) wd steps ≡ true
-      = λ j w l. sym (joinedAfter-steps w (speaks silent w) is reached calls made) ∙ j w l in
       record {
         leading = λ w l. leading-shown shown w (d .leading w l);
         bound = λ j.
             subst₂ (λ n m. n ≤ m * (1 + 5 * count)) (sym (changes-steps 0 is reached calls made))
-            (sym (ap countOf (shown .journal) ∙ count-in (run wd steps))) (d .bound (joined j));
+            (sym (length-shown shown)) (d .bound (joined-shown silent j));
         finish = λ j none w l.
             ap (λ e. e .taken) (shows-end shown w)
-            ∙ ap (map fiveOf) (d .finish (joined j) (none-steps shown (reached-run wd steps reached) none) w l)
+            ∙ ap (map fiveOf) (d .finish (joined-shown silent j) (none-shown none) w l)
             ∙ ap (λ j. map fiveOf (own j w)) (sym (entries-shown shown));
       }
 
@@ -116,7 +123,7 @@ module _ (before : Player) (ns : List ℕ) (count limit silent : ℕ) (r : Playe
         ∙ ap (λ o. map endOf (map newSide (o .next .windows))) (sym first-same);
   }
 
-  first-done : firstIn .answer ≡ 0
+  pub first-done : firstIn .answer ≡ 0
   first-done = ap (λ o. o .answer) first-same ∙ sym (made .answer) ∙ done
 
   delivers : (calls : List Call) → MadeAll (opened (r .player) ns count) calls → Delivers count silent (opened (r .player) ns count) calls

@@ -54,7 +54,7 @@ takeFront-end p acks s rest t made =
     }) made
 
 -- where there is no window, there is no side
-sideAt-none : (wd : World) (w : ℕ) → length (wd .sides) ≤ w → sideAt w wd ≡ noSide
+pub sideAt-none : (wd : World) (w : ℕ) → length (wd .sides) ≤ w → sideAt w wd ≡ noSide
 sideAt-none wd w h = List·getD-eq-default (wd .sides) noSide {n = w} h
 
 module _ {h : Host} {wd : World} (is : Shows h wd) where

@@ -1,24 +1,23 @@
--- How many steps change anything since the last fault or append: each lowers the work left, which is at most L × (1 + 5 × W).
+-- How many steps change anything since the last fault or append: each lowers the work left, which is at most L × (1 + 5 × W); and where no
+-- work is left, none can.
 use Prim.Native.Nat.{ℕ, zero, suc, _+_, _*_, _-_, _≤_, _<_}
 use mathlib.Core.Path.{_≡_, refl, sym, ap, ap₂, subst⁻¹, _∙_}
-use mathlib.Core.Logic.{_⊎_, inl, inr}
+use mathlib.Core.Logic.{_⊎_, inl, inr, ⊎-elim}
 use mathlib.Core.List.{List, [], _∷_}
-use mathlib.Core.Bool.{Bool, true, false, cond}
+use mathlib.Core.Bool.{Bool, true, false, cond, true≢false, false≢true}
 use native.Mathlib.Omega.{arith}
 use native.Mathlib.Nat.{mul-add, mul-one, mul-suc, mul-assoc, mul-comm}
 use lib.ListN.{length, getD, set}
 use Rattle.journal.specs.declared.Entry.{Entry}
 use Rattle.rules.specs.View.{Condition, normal, fetching, completed, suspended}
-use Rattle.delivery.specs.World.{Side, World, noSide, sideAt, Step, drop, join, start, append, step, run}
+use Rattle.delivery.specs.World.{Side, World, noSide, sideAt, Step, main, catch, written, send, take, ack, late-ack, drop, join, start, append, Reply, step, run}
 use Rattle.delivery.specs.Same.{sameWorld}
 use Rattle.delivery.specs.SameLaws.{sameWorld-itself}
-use Rattle.delivery.specs.Statement.{begins, changes}
+use Rattle.delivery.specs.Statement.{begins, changes, isWork, NoneCan}
 use Rattle.delivery.specs.Invariant.{QueuesOf, Inv, Reached}
 use Rattle.delivery.specs.Measure.{ahead, busyOf, sideWork, main-work, worked-lowers}
-use Rattle.delivery.specs.Effects.{Work, stays, mains, works, Facts, working, dropping, joining, starting, appending}
-use Rattle.delivery.specs.SteppedAll.{step-facts}
-use Rattle.delivery.specs.Worlds.{withSide-count}
-use Rattle.delivery.specs.Reach.{read-in, few-in, reached-step}
+use Rattle.delivery.specs.Effects.{Work, stays, mains, works, work-journal, work-count}
+use Rattle.delivery.specs.Reach.{read-in, few-in, reached-step, begun-or-working}
 
 -- ------------------------------------------------------------------------
 -- a sum over sides
@@ -84,10 +83,10 @@ workLeft-most wd r =
 -- ------------------------------------------------------------------------
 -- a piece of work lowers it
 
-pub work-lowers : {acks : Bool} (wd wd′ : World) → Reached wd → Work acks wd wd′ → (wd′ ≡ wd) ⊎ (workLeft wd′ < workLeft wd)
+pub work-lowers : {s : Step} {reply : Reply} (wd wd′ : World) → Reached wd → Work s reply wd wd′ → (wd′ ≡ wd) ⊎ (workLeft wd′ < workLeft wd)
 unfolding workLeft
-work-lowers wd wd′ r (stays e) = inl e
-work-lowers wd wd′ r (mains m) =
+work-lowers wd wd′ r (stays idle e) = inl e
+work-lowers wd wd′ r (mains i is done m) =
     let l : ℕ = length (wd .journal) in
     let len : length (wd′ .journal) ≡ length (wd .journal) = ap length (m .journal) in
     let each : (w : ℕ) → w < length (wd′ .sides) →
@@ -117,10 +116,8 @@ work-lowers wd wd′ r (works w h p′ work e s) =
 -- what a step leaves as it was
 
 -- a step that is neither a fault nor an append leaves the journal and the number of windows
-pub work-most : {acks : Bool} (wd wd′ : World) → Work acks wd wd′ → mostWork wd′ ≡ mostWork wd
-work-most wd wd′ (stays e) = ap mostWork e
-work-most wd wd′ (mains m) = ap₂ (λ j n. length j * (1 + 5 * n)) (m .journal) (m .count)
-work-most wd wd′ (works w h p′ work e s) = ap mostWork e ∙ ap (λ n. length (wd .journal) * (1 + 5 * n)) (withSide-count w p′ wd)
+pub work-most : {s : Step} {reply : Reply} (wd wd′ : World) → Work s reply wd wd′ → mostWork wd′ ≡ mostWork wd
+work-most wd wd′ work = ap₂ (λ j n. length j * (1 + 5 * n)) (work-journal wd wd′ work) (work-count wd wd′ work)
 
 -- ------------------------------------------------------------------------
 -- the count
@@ -133,9 +130,8 @@ module _ (n : ℕ) (wd : World) (s : Step) (r : Reached wd) (h : n + workLeft wd
   abbrev Counted : Type 0
   Counted = countAfter n wd s + workLeft (step s wd .world) ≤ mostWork (step s wd .world)
 
-  anew : (x : Step) → s ≡ x → begins x (step s wd .reply) ≡ true → Counted
-  anew x is begun =
-      simp (ap (λ x. begins x (step s wd .reply)) is ∙ begun) (omega (arith, workLeft-most (step s wd .world) (reached-step wd s r)))
+  anew : begins s (step s wd .reply) ≡ true → Counted
+  anew begun = simp begun (omega (arith, workLeft-most (step s wd .world) (reached-step wd s r)))
 
   counted : begins s (step s wd .reply) ≡ false → mostWork (step s wd .world) ≡ mostWork wd → (t : Bool) →
       sameWorld wd (step s wd .world) ≡ t → (step s wd .world ≡ wd) ⊎ (workLeft (step s wd .world) < workLeft wd) → Counted
@@ -145,13 +141,13 @@ module _ (n : ℕ) (wd : World) (s : Step) (r : Reached wd) (h : n + workLeft wd
   counted quiet most true same (inr l) = simp (quiet, same) (omega arith)
   counted quiet most false same (inr l) = simp (quiet, same) (omega arith)
 
-  by-facts : Facts s wd → Counted
-  by-facts (working quiet work) =
-      counted quiet (work-most wd (step s wd .world) work) (sameWorld wd (step s wd .world)) refl (work-lowers wd (step s wd .world) r work)
-  by-facts (dropping w is done k e sh) = anew (drop w) is done
-  by-facts (joining w is done k away e sh) = anew (join w) is done
-  by-facts (starting b silent is done m) = anew (start b silent) is done
-  by-facts (appending e is done k same) = anew (append e) is done
+  after-step : Counted
+  after-step =
+      ⊎-elim anew
+      (λ k.
+      counted (k .0) (work-most wd (step s wd .world) (k .1)) (sameWorld wd (step s wd .world)) refl
+      (work-lowers wd (step s wd .world) r (k .1)))
+      (begun-or-working wd s r)
 
 -- the count so far and the work left are together at most L × (1 + 5 × W)
 pub changes-bound : (n : ℕ) (wd : World) (ss : List Step) → Reached wd → n + workLeft wd ≤ mostWork wd →
@@ -159,4 +155,29 @@ pub changes-bound : (n : ℕ) (wd : World) (ss : List Step) → Reached wd → n
 unfolding changes run
 changes-bound n wd [] r h = omega arith
 changes-bound n wd (s ∷ ss) r h =
-    changes-bound (countAfter n wd s) (step s wd .world) ss (reached-step wd s r) (by-facts n wd s r h (step-facts wd (r .inShape) s))
+    changes-bound (countAfter n wd s) (step s wd .world) ss (reached-step wd s r) (after-step n wd s r h)
+
+-- ------------------------------------------------------------------------
+-- no work left
+
+begins-work : (s : Step) (reply : Reply) → isWork s ≡ true → begins s reply ≡ false
+begins-work (main i) reply e = refl
+begins-work (catch w t i) reply e = refl
+begins-work (written w t) reply e = refl
+begins-work (send w out) reply e = refl
+begins-work (take w acks) reply e = refl
+begins-work (ack w) reply e = refl
+begins-work (late-ack w t i) reply e = refl
+begins-work (drop w) reply e = absurd (false≢true e)
+begins-work (join w) reply e = absurd (false≢true e)
+begins-work (start b silent) reply e = absurd (false≢true e)
+begins-work (append x) reply e = absurd (false≢true e)
+
+-- A result to be read: where no work is left, none can.
+pub none-left : (wd : World) → Reached wd → workLeft wd ≡ 0 → NoneCan wd
+none-left wd r none s is =
+    ⊎-elim (λ begun. absurd (true≢false (sym begun ∙ begins-work s _ is)))
+    (λ k.
+    ⊎-elim (λ e. ap (sameWorld wd) e ∙ sameWorld-itself wd) (λ (l : workLeft (step s wd .world) < workLeft wd). absurd (omega arith))
+    (work-lowers wd _ r (k .1)))
+    (begun-or-working wd s r)

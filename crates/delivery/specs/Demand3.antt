@@ -71,7 +71,7 @@ module _ (before : PlayerView) (j : List Entry) (count limit silent : ℕ) (done
       said-at silent (replicate count 0) w (omega (arith, length-replicate {A = ℕ} count 0))
       ∙ ap (saidBy silent w) (getD-replicate count w 0 0 h)
 
-  opened-count : length (opened j first .sides) ≡ count
+  pub opened-count : length (opened j first .sides) ≡ count
   unfolding opened
   opened-count =
       length-map (first .next .windows) newSide ∙ start-done .windows

@@ -1,44 +1,36 @@
 -- What a step does, said once: nothing, Main at every window, the work of one window, or a fault or an append.
 use Prim.Native.Nat.{ℕ, suc, _≤_, _<_}
-use mathlib.Core.Path.{_≡_}
+use mathlib.Core.Path.{_≡_, ap, _∙_}
 use mathlib.Core.List.{List, [], _∷_, _++_}
 use mathlib.Core.Bool.{Bool, true, false}
 use lib.ListN.{length}
 use Rattle.journal.specs.declared.Entry.{Entry}
+use Rattle.journal.specs.Entry.{fiveOf}
+use Rattle.record.specs.Record.{takeNumbers}
 use Rattle.rules.specs.declared.Term.{Term}
 use Rattle.rules.specs.Shape.{shape}
 use Rattle.rules.specs.Window.{isSuspended, wanted, mainAt, fetched, batchOf, freed, acknowledged, dropped, joined, startedBy}
 use Rattle.rules.specs.Rules.{speaks, saidBy}
 use Rattle.rules.specs.Offers.{Caught, SentOut, WrittenOff, AckTaken}
-use Rattle.delivery.specs.World.{Sent, Ack, Side, World, sideAt, numbersIn, playerIn, withView, withLines, withSide, takeFront, cleared, Step, main, catch, send, take, ack, late-ack, drop, join, start, append, step}
+use Rattle.delivery.specs.World.{Sent, Ack, Side, World, sideAt, numbersIn, playerIn, withView, withLines, withSide, takeFront, cleared, Step, main, catch, send, take, ack, drop, join, start, append, Reply, answered, step}
 use Rattle.delivery.specs.World as W
 use Rattle.delivery.specs.Invariant.{lastOf}
+use Rattle.delivery.specs.Worlds.{withSide-count}
 use Rattle.delivery.specs.KeepSend.{launchedSide}
 use Rattle.delivery.specs.Statement.{isDone, begins}
 
--- whether a step is a Take that acks its entry even if that is not the last of its batch
-abbrev pub acksEarly : Step → Bool
-acksEarly (main i) = false
-acksEarly (catch w t i) = false
-acksEarly (W.written w t) = false
-acksEarly (send w out) = false
-acksEarly (take w acks) = acks
-acksEarly (ack w) = false
-acksEarly (late-ack w t i) = false
-acksEarly (drop w) = false
-acksEarly (join w) = false
-acksEarly (start b silent) = false
-acksEarly (append e) = false
-
--- the work of one window: Catch, Send, Written, Take, which may ack any entry or not, or Ack answered 0
-pub data Worked (j : List Entry) (limit w : ℕ) (acks : Bool) (p p′ : Side) : Type 0 where
-  caught : (t : Term) (i : ℕ) (c : Caught j w t i (p .view)) →
-      p′ ≡ withView (fetched (wanted j w i (p .view)) i (c .upto) (p .view)) p → Worked j limit w acks p p′
-  sent : (size : ℕ) → SentOut limit size (p .view) → p′ ≡ launchedSide j (batchOf limit (p .view)) p → Worked j limit w acks p p′
-  written : (t : Term) → WrittenOff t (p .view) → p′ ≡ withView (freed (p .view)) p → Worked j limit w acks p p′
-  took : (s : Sent) (rest : List Sent) → p .line ≡ s ∷ rest → p′ ≡ takeFront acks s rest p → Worked j limit w acks p p′
-  acked : (a : Ack) (rest : List Ack) → p .back ≡ a ∷ rest → AckTaken j w (a .term) (a .index) (p .view) →
-      p′ ≡ withLines (p .line) rest (withView (acknowledged (a .index) (p .view)) p) → Worked j limit w acks p p′
+-- the work of window w by a step s with its reply: Catch, Send, Written or Ack answered 0, or a Take, which may ack any entry or not
+pub data Worked (j : List Entry) (limit w : ℕ) (s : Step) (reply : Reply) (p p′ : Side) : Type 0 where
+  caught : (t : Term) (i : ℕ) → s ≡ catch w t i → (c : Caught j w t i (p .view)) →
+      p′ ≡ withView (fetched (wanted j w i (p .view)) i (c .upto) (p .view)) p → Worked j limit w s reply p p′
+  sent : (out : List ℕ) → s ≡ send w out → SentOut limit (length out) (p .view) → p′ ≡ launchedSide j (batchOf limit (p .view)) p →
+      Worked j limit w s reply p p′
+  written : (t : Term) → s ≡ W.written w t → WrittenOff t (p .view) → p′ ≡ withView (freed (p .view)) p → Worked j limit w s reply p p′
+  took : (acks : Bool) → s ≡ take w acks → (x : Sent) (rest : List Sent) → p .line ≡ x ∷ rest →
+      reply ≡ answered (takeNumbers (fiveOf (x .placed)) (p .record′) .number) → p′ ≡ takeFront acks x rest p →
+      Worked j limit w s reply p p′
+  acked : s ≡ ack w → (a : Ack) (rest : List Ack) → p .back ≡ a ∷ rest → AckTaken j w (a .term) (a .index) (p .view) →
+      p′ ≡ withLines (p .line) rest (withView (acknowledged (a .index) (p .view)) p) → Worked j limit w s reply p p′
 
 -- Main answered 0: the next index is read, and each window does as its own rule says
 pub record Mained (wd wd′ : World) : Type 0 where
@@ -50,18 +42,18 @@ pub record Mained (wd wd′ : World) : Type 0 where
       sideAt w wd′ ≡ withView (mainAt (wd .journal) w (suc (wd .current)) (sideAt w wd .view)) (sideAt w wd)
   pub shaped : shape (numbersIn wd′) (playerIn wd′) ≡ true
 
--- a step that is neither a fault nor an append
-pub data Work (acks : Bool) (wd wd′ : World) : Type 0 where
-  stays : wd′ ≡ wd → Work acks wd wd′
-  mains : Mained wd wd′ → Work acks wd wd′
-  works : (w : ℕ) → w < length (wd .sides) → (p′ : Side) → Worked (wd .journal) (wd .limit) w acks (sideAt w wd) p′ →
-      wd′ ≡ withSide w p′ wd → shape (numbersIn wd′) (playerIn wd′) ≡ true → Work acks wd wd′
+-- a step s with its reply that is neither a fault nor an append: it is not answered 0 and does nothing, or is a Main, or a window's work
+pub data Work (s : Step) (reply : Reply) (wd wd′ : World) : Type 0 where
+  stays : isDone reply ≡ false → wd′ ≡ wd → Work s reply wd wd′
+  mains : (i : ℕ) → s ≡ main i → isDone reply ≡ true → Mained wd wd′ → Work s reply wd wd′
+  works : (w : ℕ) → w < length (wd .sides) → (p′ : Side) → Worked (wd .journal) (wd .limit) w s reply (sideAt w wd) p′ →
+      wd′ ≡ withSide w p′ wd → shape (numbersIn wd′) (playerIn wd′) ≡ true → Work s reply wd wd′
 
 -- a step that does the work of window w
 pub record WorksAt (s : Step) (wd : World) (w : ℕ) : Type 0 where
   pub within : w < length (wd .sides)
   pub after : Side
-  pub work : Worked (wd .journal) (wd .limit) w (acksEarly s) (sideAt w wd) after
+  pub work : Worked (wd .journal) (wd .limit) w s (step s wd .reply) (sideAt w wd) after
   pub world : step s wd .world ≡ withSide w after wd
   pub shaped : shape (numbersIn (step s wd .world)) (playerIn (step s wd .world)) ≡ true
 
@@ -76,7 +68,7 @@ pub record Restarted (silent : ℕ) (wd wd′ : World) : Type 0 where
 
 -- what a step does
 pub data Facts (s : Step) (wd : World) : Type 0 where
-  working : begins s (step s wd .reply) ≡ false → Work (acksEarly s) wd (step s wd .world) → Facts s wd
+  working : begins s (step s wd .reply) ≡ false → Work s (step s wd .reply) wd (step s wd .world) → Facts s wd
   dropping : (w : ℕ) → s ≡ drop w → isDone (step s wd .reply) ≡ true → w < length (wd .sides) →
       step s wd .world ≡ withSide w (withView (dropped (sideAt w wd .view)) (sideAt w wd)) wd →
       shape (numbersIn (step s wd .world)) (playerIn (step s wd .world)) ≡ true → Facts s wd
@@ -86,3 +78,16 @@ pub data Facts (s : Step) (wd : World) : Type 0 where
   starting : (b silent : ℕ) → s ≡ start b silent → isDone (step s wd .reply) ≡ true → Restarted silent wd (step s wd .world) → Facts s wd
   appending : (e : Entry) → s ≡ append e → isDone (step s wd .reply) ≡ true → length (wd .journal) < 65535 →
       step s wd .world ≡ record { journal = wd .journal ++ (e ∷ []); limit = wd .limit; current = wd .current; sides = wd .sides } → Facts s wd
+
+-- ------------------------------------------------------------------------
+-- what work leaves as it was: the journal, and the number of windows
+
+pub work-journal : {s : Step} {reply : Reply} (wd wd′ : World) → Work s reply wd wd′ → wd′ .journal ≡ wd .journal
+work-journal wd wd′ (stays idle e) = ap (λ x. x .journal) e
+work-journal wd wd′ (mains i is done m) = m .journal
+work-journal wd wd′ (works w h p′ work e sh) = ap (λ x. x .journal) e
+
+pub work-count : {s : Step} {reply : Reply} (wd wd′ : World) → Work s reply wd wd′ → length (wd′ .sides) ≡ length (wd .sides)
+work-count wd wd′ (stays idle e) = ap (λ x. length (x .sides)) e
+work-count wd wd′ (mains i is done m) = m .count
+work-count wd wd′ (works w h p′ work e sh) = ap (λ x. length (x .sides)) e ∙ withSide-count w p′ wd

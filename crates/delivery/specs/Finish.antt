@@ -83,7 +83,7 @@ taken-whole {j} {c} {w} {p} inv here line queued =
 
 module _ (wd : World) (r : Reached wd) (none : NoneCan wd) where
   -- all of the journal is read
-  all-read : wd .current ≡ length (wd .journal)
+  pub all-read : wd .current ≡ length (wd .journal)
   all-read =
       ⊎-elim (λ (h : length (wd .journal) ≤ wd .current). omega (arith, read-in wd r))
       (λ (h : wd .current < length (wd .journal)).

@@ -23,18 +23,13 @@ use Rattle.delivery.specs.World as W
 use Rattle.delivery.specs.Statement.{begins, joinedBy, joinedAfter}
 use Rattle.delivery.specs.Invariant.{Reached, lastOf}
 use Rattle.delivery.specs.Worlds.{entries-in, window-in, windows-in, withSide-count}
-use Rattle.delivery.specs.Effects.{Worked, Work, stays, mains, works, Facts, working, dropping, joining, starting, appending}
+use Rattle.delivery.specs.Effects.{Worked, Work, stays, mains, works, work-count, Facts, working, dropping, joining, starting, appending}
 use Rattle.delivery.specs.Effects as E
 use Rattle.delivery.specs.SteppedAll.{step-facts}
 use Rattle.delivery.specs.Reach.{reached-step}
 
 -- ------------------------------------------------------------------------
 -- the number of windows
-
-work-count : {acks : Bool} (wd wd′ : World) → Work acks wd wd′ → length (wd′ .sides) ≡ length (wd .sides)
-work-count wd wd′ (stays e) = ap (λ x. length (x .sides)) e
-work-count wd wd′ (mains m) = m .count
-work-count wd wd′ (works w h p′ work e s) = ap (λ x. length (x .sides)) e ∙ withSide-count w p′ wd
 
 pub step-count : (wd : World) (s : Step) → Reached wd → length (step s wd .world .sides) ≡ length (wd .sides)
 step-count wd s r = by (step-facts wd (r .inShape) s)
@@ -77,16 +72,16 @@ after-away : (s s′ : Condition) → ConditionAfter s s′ → isSuspended s′
 after-away s s′ (B.same e) = ap isSuspended e
 after-away s s′ (B.emptied end e n) = ap isSuspended n ∙ sym (ap isSuspended e)
 
-worked-away : {acks : Bool} (j : List Entry) (limit w : ℕ) (p p′ : Side) → Worked j limit w acks p p′ → away p′ ≡ away p
+worked-away : {s : Step} {reply : Reply} (j : List Entry) (limit w : ℕ) (p p′ : Side) → Worked j limit w s reply p p′ → away p′ ≡ away p
 unfolding takeFront
-worked-away j limit w p p′ (E.caught t i k e) = ap away e ∙ fetched-away _ i (k .upto) (p .view) ∙ sym (ap isSuspended (k .was))
-worked-away j limit w p p′ (E.sent size out e) =
+worked-away j limit w p p′ (E.caught t i is k e) = ap away e ∙ fetched-away _ i (k .upto) (p .view) ∙ sym (ap isSuspended (k .was))
+worked-away j limit w p p′ (E.sent out is k e) =
     ap away e
     ∙ ap (λ v. isSuspended (v .condition)) (launched-is (batchOf limit (p .view) .indices) (batchOf limit (p .view) .rest))
     ∙ after-away (p .view .condition) _ (batchOf-condition limit (p .view))
-worked-away j limit w p p′ (E.written t off e) = ap away e
-worked-away j limit w p p′ (E.took s rest front e) = ap away e
-worked-away j limit w p p′ (E.acked a rest front taken e) = ap away e
+worked-away j limit w p p′ (E.written t is off e) = ap away e
+worked-away j limit w p p′ (E.took acks is x rest front replied e) = ap away e
+worked-away j limit w p p′ (E.acked is a rest front taken e) = ap away e
 
 -- a world of which one side is replaced, and what is to be the case at each window
 replaced-away : (wd wd′ : World) (v w : ℕ) (p′ : Side) → v < length (wd .sides) → wd′ ≡ withSide v p′ wd → (b : ℕ → Bool) → away p′ ≡ b v →
@@ -94,9 +89,10 @@ replaced-away : (wd wd′ : World) (v w : ℕ) (p′ : Side) → v < length (wd 
 replaced-away wd wd′ v w p′ h e b this other =
     ap (λ x. away (sideAt w x)) e ∙ getD-set-each (λ u p. away p ≡ b u) (wd .sides) v w p′ noSide h this other
 
-work-away : {acks : Bool} (wd wd′ : World) (w : ℕ) → w < length (wd .sides) → Work acks wd wd′ → away (sideAt w wd′) ≡ away (sideAt w wd)
-work-away wd wd′ w h (stays e) = ap (λ x. away (sideAt w x)) e
-work-away wd wd′ w h (mains m) = ap away (m .each w h) ∙ main-away (wd .journal) w (suc (wd .current)) (sideAt w wd .view)
+work-away : {s : Step} {reply : Reply} (wd wd′ : World) (w : ℕ) → w < length (wd .sides) → Work s reply wd wd′ →
+    away (sideAt w wd′) ≡ away (sideAt w wd)
+work-away wd wd′ w h (stays idle e) = ap (λ x. away (sideAt w x)) e
+work-away wd wd′ w h (mains i is done m) = ap away (m .each w h) ∙ main-away (wd .journal) w (suc (wd .current)) (sideAt w wd .view)
 work-away wd wd′ w h (works v k p′ work e s) =
     replaced-away wd wd′ v w p′ k e (λ u. away (sideAt u wd)) (worked-away (wd .journal) (wd .limit) v (sideAt v wd) p′ work) (λ n. refl)
 

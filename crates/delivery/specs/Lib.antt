@@ -2,6 +2,7 @@
 pub mod World
 pub mod Same
 pub mod Statement
+pub mod Counts
 pub mod Examples
 pub mod Invariant
 pub mod Queued
@@ -23,3 +24,5 @@ pub mod Bound
 pub mod Joined
 pub mod Finish
 pub mod Demand3
+pub mod ExactCounts
+pub mod CountExamples

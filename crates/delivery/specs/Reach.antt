@@ -1,8 +1,9 @@
 -- Every world of a run is reached: the beginning is, and each step leads on to another.
 use Prim.Native.Nat.{ℕ, _%_, _≤_, _<_}
 use mathlib.Core.Path.{_≡_, refl, ap, subst, subst⁻¹, _∙_}
+use mathlib.Core.Logic.{_⊎_, inl, inr}
 use mathlib.Core.List.{List, [], _∷_, _++_}
-use mathlib.Core.Bool.{Bool, true}
+use mathlib.Core.Bool.{true, false}
 use native.Mathlib.Omega.{arith}
 use lib.ListN.{length}
 use lib.Dec.{eqb, leb}
@@ -13,7 +14,8 @@ use Rattle.lists.specs.Set.{getD-set-each}
 use Rattle.journal.specs.Entry.{numbersOf, countOf}
 use Rattle.rules.specs.Shape.{shape}
 use Rattle.rules.specs.Offers.{shaped, append-shaped}
-use Rattle.delivery.specs.World.{Side, World, noSide, sideAt, numbersIn, playerIn, withSide, Step, step, run}
+use Rattle.delivery.specs.World.{Side, World, noSide, sideAt, numbersIn, playerIn, withSide, Step, drop, join, start, append, Reply, step, run}
+use Rattle.delivery.specs.Statement.{begins}
 use Rattle.delivery.specs.Invariant.{Inv, Reached}
 use Rattle.delivery.specs.KeepMain.{keep-main}
 use Rattle.delivery.specs.KeepCatch.{keep-catch}
@@ -39,13 +41,13 @@ few-in wd r =
 -- ------------------------------------------------------------------------
 -- one side
 
-pub keep-worked : {j : List Entry} {c limit w : ℕ} {acks : Bool} {p p′ : Side} → c ≤ length j → length j ≤ 65535 → Inv j c w p →
-    Worked j limit w acks p p′ → Inv j c w p′
-keep-worked read few inv (caught t i k e) = rw e (keep-catch _ _ _ _ inv t i k)
-keep-worked read few inv (sent size out e) = rw e (keep-send _ _ _ read _ inv _ size out .inv)
-keep-worked read few inv (written t off e) = rw e (keep-written inv)
-keep-worked read few inv (took s rest front e) = rw e (keep-take inv few _ s rest front)
-keep-worked read few inv (acked a rest front taken e) = rw e (keep-ack inv a rest front taken)
+pub keep-worked : {j : List Entry} {c limit w : ℕ} {s : Step} {reply : Reply} {p p′ : Side} → c ≤ length j → length j ≤ 65535 →
+    Inv j c w p → Worked j limit w s reply p p′ → Inv j c w p′
+keep-worked read few inv (caught t i is k e) = rw e (keep-catch _ _ _ _ inv t i k)
+keep-worked read few inv (sent out is k e) = rw e (keep-send _ _ _ read _ inv _ (length out) k .inv)
+keep-worked read few inv (written t is off e) = rw e (keep-written inv)
+keep-worked read few inv (took acks is x rest front replied e) = rw e (keep-take inv few acks x rest front)
+keep-worked read few inv (acked is a rest front taken e) = rw e (keep-ack inv a rest front taken)
 
 -- ------------------------------------------------------------------------
 -- one side of a world replaced
@@ -64,9 +66,9 @@ replaced wd wd′ w p′ r h e s inv =
 -- ------------------------------------------------------------------------
 -- each kind of step
 
-reached-work : {acks : Bool} (wd wd′ : World) → Reached wd → Work acks wd wd′ → Reached wd′
-reached-work wd wd′ r (stays e) = subst⁻¹ Reached e r
-reached-work wd wd′ r (mains m) = record {
+reached-work : {s : Step} {reply : Reply} (wd wd′ : World) → Reached wd → Work s reply wd wd′ → Reached wd′
+reached-work wd wd′ r (stays idle e) = subst⁻¹ Reached e r
+reached-work wd wd′ r (mains i is done m) = record {
   inShape = m .shaped;
   each = λ w h.
       let h′ : w < length (wd .sides) = omega (arith, m .count) in
@@ -108,6 +110,22 @@ reached-step wd s r = by (step-facts wd (r .inShape) s)
     by (joining w is done h away e sh) = replaced wd _ w _ r h e sh (keep-join (r .each w h) away)
     by (starting b silent is done m) = reached-restart silent wd _ r m
     by (appending e is done h same) = reached-append wd _ e r h same
+
+-- a step is a fault or an append, or else it does some work or nothing
+pub begun-or-working : (wd : World) (s : Step) → Reached wd →
+    (begins s (step s wd .reply) ≡ true) ⊎ ((begins s (step s wd .reply) ≡ false) × Work s (step s wd .reply) wd (step s wd .world))
+begun-or-working wd s r = by (step-facts wd (r .inShape) s)
+  where
+    begun : (x : Step) → s ≡ x → begins x (step s wd .reply) ≡ true → begins s (step s wd .reply) ≡ true
+    begun x is done = ap (λ x. begins x (step s wd .reply)) is ∙ done
+
+    by : Facts s wd →
+        (begins s (step s wd .reply) ≡ true) ⊎ ((begins s (step s wd .reply) ≡ false) × Work s (step s wd .reply) wd (step s wd .world))
+    by (working quiet work) = inr (quiet, work)
+    by (dropping w is done h e sh) = inl (begun (drop w) is done)
+    by (joining w is done h away e sh) = inl (begun (join w) is done)
+    by (starting b silent is done m) = inl (begun (start b silent) is done)
+    by (appending e is done h same) = inl (begun (append e) is done)
 
 pub reached-run : (wd : World) (ss : List Step) → Reached wd → Reached (run wd ss)
 unfolding run

@@ -15,10 +15,11 @@ use Rattle.rules.specs.View.{WindowView, PlayerView}
 use Rattle.rules.specs.Shape.{shape}
 use Rattle.rules.specs.Rules.{Outcome, withWindow, catchRule, writtenRule, ackRule, dropRule}
 use Rattle.rules.specs.Offers.{Effect, LawfulRule, catchEffect, catchRule-lawful, writtenEffect, writtenRule-lawful, ackRule-lawful, dropEffect, dropRule-lawful}
-use Rattle.delivery.specs.World.{Side, World, noSide, sideAt, numbersIn, playerIn, withView, withPlayer, withSide, Step, catch, written, late-ack, drop, answered, called, calledThen, step}
-use Rattle.delivery.specs.Statement.{begins}
+use Rattle.delivery.specs.World.{Side, World, noSide, sideAt, numbersIn, playerIn, withView, withPlayer, withSide, Step, catch, written, late-ack, drop, Reply, answered, unmade, called, calledThen, step}
+use Rattle.delivery.specs.World as W
+use Rattle.delivery.specs.Statement.{isDone, begins}
 use Rattle.delivery.specs.Worlds.{entries-in, window-in, windows-in, withPlayer-same, withPlayer-window, withSide-here, withSide-twice, withSide-player}
-use Rattle.delivery.specs.Effects.{acksEarly, Worked, stays, works, WorksAt, Facts, working, dropping}
+use Rattle.delivery.specs.Effects.{Worked, stays, works, WorksAt, Facts, working, dropping}
 use Rattle.delivery.specs.Effects as E
 
 -- ------------------------------------------------------------------------
@@ -46,8 +47,14 @@ call-either wd s o f calls quiet same done =
     ⊎-elim done
     (λ (n : o .answer ≡ 0 → ⊥).
     working (ap (λ r. begins s (r .reply)) calls ∙ quiet n)
-    (stays (ap (λ r. r .world) calls ∙ calledThen-refused o f wd n ∙ withPlayer-same wd (o .next) (same n))))
+    (stays (ap (λ r. isDone (r .reply)) calls ∙ ne-eqb (o .answer) 0 n)
+    (ap (λ r. r .world) calls ∙ calledThen-refused o f wd n ∙ withPlayer-same wd (o .next) (same n))))
     (eq-or-ne (o .answer) 0)
+
+-- a step that is not made, or that is a Take or an Ack where there is no entry or no window
+pub idle-facts : (wd : World) (s : Step) (r : Reply) → begins s r ≡ false → isDone r ≡ false → step s wd ≡ W.stays r wd → Facts s wd
+idle-facts wd s r quiet idle is =
+    working (ap (λ x. begins s (x .reply)) is ∙ quiet) (stays (ap (λ x. isDone (x .reply)) is ∙ idle) (ap (λ x. x .world) is))
 
 -- a step that does the work of a window is neither a fault nor an append
 pub works-facts : (wd : World) (w : ℕ) (s : Step) → begins s (step s wd .reply) ≡ false → WorksAt s wd w → Facts s wd
@@ -119,7 +126,8 @@ module _ {s : Step} {wd : World} {w : ℕ} {o : Outcome} {x : Effect} {g : Side 
   -- it does a piece of the window's work
   pub call-works : shape (numbersIn wd) (playerIn wd) ≡ true → o .answer ≡ 0 →
       ((t : x .tells (wd .journal) (sideAt w wd .view)) →
-      Worked (wd .journal) (wd .limit) w (acksEarly s) (sideAt w wd) (g (withView (x .makes (wd .journal) (sideAt w wd .view) t) (sideAt w wd)))) →
+      Worked (wd .journal) (wd .limit) w s (step s wd .reply) (sideAt w wd)
+      (g (withView (x .makes (wd .journal) (sideAt w wd .view) t) (sideAt w wd)))) →
       WorksAt s wd w
   call-works shaped e work =
       let d = call-done shaped e in
@@ -137,7 +145,7 @@ module _ (wd : World) (shaped : shape (numbersIn wd) (playerIn wd) ≡ true) whe
   catch-call w t i = call-alone (catchRule-lawful (numbersIn wd) w t i (playerIn wd)) refl
 
   pub catch-works : (w : ℕ) (t : Term) (i : ℕ) → catchRule (numbersIn wd) w t i (playerIn wd) .answer ≡ 0 → WorksAt (catch w t i) wd w
-  catch-works w t i e = call-works (catch-call w t i) shaped e (λ c. E.caught t i c refl)
+  catch-works w t i e = call-works (catch-call w t i) shaped e (λ c. E.caught t i refl c refl)
 
   pub facts-catch : (w : ℕ) (t : Term) (i : ℕ) → Facts (catch w t i) wd
   facts-catch w t i = call-facts (catch-call w t i) (λ n. refl) (λ e. works-facts wd w (catch w t i) refl (catch-works w t i e))
@@ -147,7 +155,7 @@ module _ (wd : World) (shaped : shape (numbersIn wd) (playerIn wd) ≡ true) whe
   written-call w t = call-alone (writtenRule-lawful (numbersIn wd) w t (playerIn wd)) refl
 
   pub written-works : (w : ℕ) (t : Term) → writtenRule (numbersIn wd) w t (playerIn wd) .answer ≡ 0 → WorksAt (written w t) wd w
-  written-works w t e = call-works (written-call w t) shaped e (λ c. E.written t c refl)
+  written-works w t e = call-works (written-call w t) shaped e (λ c. E.written t refl c refl)
 
   pub facts-written : (w : ℕ) (t : Term) → Facts (written w t) wd
   facts-written w t = call-facts (written-call w t) (λ n. refl) (λ e. works-facts wd w (written w t) refl (written-works w t e))
@@ -170,7 +178,8 @@ module _ (wd : World) (shaped : shape (numbersIn wd) (playerIn wd) ≡ true) whe
       (λ (late : (leb (length (wd .sides)) w || ltb (t .0) (sideAt w wd .view .term .0)) ≡ true).
       call-either wd (late-ack w t i) o (λ x. x) (rw late (called-then o wd)) (λ n. refl)
       (ackRule-lawful (numbersIn wd) w t i (playerIn wd) .refuses) (λ e. absurd (late-refused w t i late e)))
-      (λ (young : (leb (length (wd .sides)) w || ltb (t .0) (sideAt w wd .view .term .0)) ≡ false). working refl (stays (rw young)))
+      (λ (young : (leb (length (wd .sides)) w || ltb (t .0) (sideAt w wd .view .term .0)) ≡ false).
+      idle-facts wd (late-ack w t i) unmade refl refl (rw young))
       (true-or-false (leb (length (wd .sides)) w || ltb (t .0) (sideAt w wd .view .term .0)))
 
   drop-call : (w : ℕ) → CallAt (drop w) wd w (dropRule (numbersIn wd) w (playerIn wd)) dropEffect (λ p. p)

@@ -15,13 +15,12 @@ use Rattle.rules.specs.Shape.{shape}
 use Rattle.rules.specs.Window.{mainAt, Report, silence, startedBy}
 use Rattle.rules.specs.Rules.{Outcome, windowAt, mainRule, saidBy, said, startRule}
 use Rattle.rules.specs.Offers.{mainRule-done, mainRule-refuses, mainNext-at, mainRule-count, startRule-done, startRule-refuses, startNext-at, said-at, least-le, main-shaped, start-shaped}
-use Rattle.delivery.specs.World.{Side, World, noSide, sideAt, numbersIn, playerIn, withView, withViews, withPlayer, Step, main, catch, written, send, ack, late-ack, drop, join, start, append, cleared, reportsIn, step}
+use Rattle.delivery.specs.World.{Side, World, noSide, sideAt, numbersIn, playerIn, withView, withViews, withPlayer, Step, main, catch, written, send, ack, late-ack, drop, join, start, append, unmade, cleared, reportsIn, step}
 use Rattle.delivery.specs.World as W
 use Rattle.delivery.specs.Invariant.{lastOf}
 use Rattle.delivery.specs.Worlds.{entries-in, count-in, window-in, windows-in, withViews-length, withViews-at, withPlayer-player}
-use Rattle.delivery.specs.Effects.{Mained, stays, mains, Restarted, Facts, working, starting, appending}
-use Rattle.delivery.specs.Effects as E
-use Rattle.delivery.specs.Stepped.{calledThen-done, called-then, call-either, facts-catch, facts-written, facts-late, facts-drop}
+use Rattle.delivery.specs.Effects.{Mained, mains, Restarted, Facts, working, starting, appending}
+use Rattle.delivery.specs.Stepped.{calledThen-done, called-then, call-either, idle-facts, facts-catch, facts-written, facts-late, facts-drop}
 use Rattle.delivery.specs.SteppedLine.{facts-join, facts-send, facts-ack, facts-take}
 
 -- every line emptied
@@ -58,7 +57,7 @@ module _ (wd : World) (shaped : shape (numbersIn wd) (playerIn wd) ≡ true) whe
   unfolding step
   facts-main i =
       call-either wd (main i) (mainRule (numbersIn wd) i (playerIn wd)) (λ x. x) (called-then _ wd) (λ n. refl)
-      (mainRule-refuses (numbersIn wd) i (playerIn wd)) (λ e. working refl (mains (main-moves i e)))
+      (mainRule-refuses (numbersIn wd) i (playerIn wd)) (λ e. working refl (mains i refl (eq-eqb _ 0 e) (main-moves i e)))
 
   -- ------------------------------------------------------------------------
   -- Start
@@ -124,7 +123,7 @@ module _ (wd : World) (shaped : shape (numbersIn wd) (playerIn wd) ≡ true) whe
   facts-append e =
       ⊎-elim
       (λ (h : 65535 ≤ length (wd .journal)).
-      working (simp (le-ltb (length (wd .journal)) 65535 h)) (stays (simp (le-ltb (length (wd .journal)) 65535 h))))
+      idle-facts wd (append e) unmade refl refl (simp (le-ltb (length (wd .journal)) 65535 h)))
       (λ (h : length (wd .journal) < 65535).
       appending e refl (simp (lt-ltb (length (wd .journal)) 65535 h)) h (simp (lt-ltb (length (wd .journal)) 65535 h)))
       (le-or-lt 65535 (length (wd .journal)))

@@ -11,13 +11,13 @@ use Rattle.rules.specs.Shape.{shape}
 use Rattle.rules.specs.Window.{batchOf}
 use Rattle.rules.specs.Rules.{ackRule, joinRule, sendRule}
 use Rattle.rules.specs.Offers.{sendEffect, sendRule-lawful, ackEffect, ackRule-lawful, joinEffect, joinRule-lawful}
-use Rattle.delivery.specs.World.{Sent, Ack, Side, World, sideAt, numbersIn, playerIn, withLines, withSide, onLine, takeFront, send, ack, join, launch, takeAtLine, ackAtLine, cleared, step}
+use Rattle.delivery.specs.World.{Sent, Ack, Side, World, sideAt, numbersIn, playerIn, withLines, withSide, onLine, takeFront, send, ack, join, answered, empty, launch, takeAtLine, ackAtLine, cleared, step}
 use Rattle.delivery.specs.World as W
 use Rattle.delivery.specs.Invariant.{lastOf}
 use Rattle.delivery.specs.Worlds.{window-in, withWindow-same}
-use Rattle.delivery.specs.Effects.{stays, WorksAt, Facts, working, joining}
+use Rattle.delivery.specs.Effects.{WorksAt, Facts, joining}
 use Rattle.delivery.specs.Effects as E
-use Rattle.delivery.specs.Stepped.{CallAt, call-done, call-works, call-facts, shape-after, works-facts}
+use Rattle.delivery.specs.Stepped.{idle-facts, CallAt, call-done, call-works, call-facts, shape-after, works-facts}
 
 module _ (wd : World) (shaped : shape (numbersIn wd) (playerIn wd) ≡ true) where
   -- ------------------------------------------------------------------------
@@ -65,7 +65,7 @@ module _ (wd : World) (shaped : shape (numbersIn wd) (playerIn wd) ≡ true) whe
 
   pub send-works : (w : ℕ) (out : List ℕ) → sendRule (numbersIn wd) w (length out) (playerIn wd) .answer ≡ 0 → WorksAt (send w out) wd w
   unfolding batchPut
-  send-works w out e = call-works (send-call w out) shaped e (λ c. E.sent (length out) c refl)
+  send-works w out e = call-works (send-call w out) shaped e (λ c. E.sent out refl c refl)
 
   pub facts-send : (w : ℕ) (out : List ℕ) → Facts (send w out) wd
   facts-send w out = call-facts (send-call w out) (λ n. refl) (λ e. works-facts wd w (send w out) refl (send-works w out e))
@@ -91,10 +91,10 @@ module _ (wd : World) (shaped : shape (numbersIn wd) (playerIn wd) ≡ true) whe
 
   pub ack-works : (w : ℕ) (a : Ack) (rest : List Ack) → w < length (wd .sides) → sideAt w wd .back ≡ a ∷ rest →
       ackRule (numbersIn wd) w (a .term) (a .index) (playerIn wd) .answer ≡ 0 → WorksAt (ack w) wd w
-  ack-works w a rest h front e = call-works (ack-call w a rest h front) shaped e (λ c. E.acked a rest front c refl)
+  ack-works w a rest h front e = call-works (ack-call w a rest h front) shaped e (λ c. E.acked refl a rest front c refl)
 
   ack-front : (w : ℕ) (b : List Ack) → w < length (wd .sides) → sideAt w wd .back ≡ b → Facts (ack w) wd
-  ack-front w [] h front = working refl (stays (ap (λ r. r .world) (ack-line w [] h front)))
+  ack-front w [] h front = idle-facts wd (ack w) empty refl refl (ack-line w [] h front)
   ack-front w (a ∷ rest) h front =
       call-facts (ack-call w a rest h front) (λ n. refl) (λ e. works-facts wd w (ack w) refl (ack-works w a rest h front e))
 
@@ -102,7 +102,7 @@ module _ (wd : World) (shaped : shape (numbersIn wd) (playerIn wd) ≡ true) whe
   unfolding step
   facts-ack w =
       ⊎-elim
-      (λ (h : length (wd .sides) ≤ w). working refl (stays (simp (le-ltb w (length (wd .sides)) h))))
+      (λ (h : length (wd .sides) ≤ w). idle-facts wd (ack w) (answered 2) refl refl (simp (le-ltb w (length (wd .sides)) h)))
       (λ (h : w < length (wd .sides)). ack-front w (sideAt w wd .back) h refl)
       (le-or-lt (length (wd .sides)) w)
 
@@ -123,19 +123,19 @@ module _ (wd : World) (shaped : shape (numbersIn wd) (playerIn wd) ≡ true) whe
       record {
         within = h;
         after = takeFront acks s rest (sideAt w wd);
-        work = E.took s rest front refl;
+        work = E.took acks refl s rest front (ap (λ r. r .reply) (take-line w acks (s ∷ rest) h front)) refl;
         world = done;
         shaped = shape-after wd w (playerIn wd) (sideAt w wd .view) _ _ (sym (withWindow-same w wd)) shaped done refl;
       }
 
   take-front : (w : ℕ) (acks : Bool) (l : List Sent) → w < length (wd .sides) → sideAt w wd .line ≡ l → Facts (W.take w acks) wd
-  take-front w acks [] h front = working refl (stays (ap (λ r. r .world) (take-line w acks [] h front)))
+  take-front w acks [] h front = idle-facts wd (W.take w acks) empty refl refl (take-line w acks [] h front)
   take-front w acks (s ∷ rest) h front = works-facts wd w (W.take w acks) refl (take-works w acks s rest h front)
 
   pub facts-take : (w : ℕ) (acks : Bool) → Facts (W.take w acks) wd
   unfolding step
   facts-take w acks =
       ⊎-elim
-      (λ (h : length (wd .sides) ≤ w). working refl (stays (simp (le-ltb w (length (wd .sides)) h))))
+      (λ (h : length (wd .sides) ≤ w). idle-facts wd (W.take w acks) (answered 2) refl refl (simp (le-ltb w (length (wd .sides)) h)))
       (λ (h : w < length (wd .sides)). take-front w acks (sideAt w wd .line) h refl)
       (le-or-lt (length (wd .sides)) w)

@@ -20,10 +20,12 @@ use Rattle.delivery.specs.Demand3.{opened-reached}
 use Rattle.delivery.specs.Examples.{computed, done, term, room}
 use Rattle.calls.specs.Host.{Host, endAt, Call, MadeAll, batchIn, hostAfter, opened}
 use Rattle.calls.specs.Statement.{Leading, Delivers, FirstStart}
+use Rattle.calls.specs.Counts.{Counts}
 use Rattle.calls.specs.Shows.{endOf, shows-end}
 use Rattle.calls.specs.Steps.{callStep}
 use Rattle.calls.specs.Runs.{hostAfter-shows}
 use Rattle.calls.specs.Demand3Calls.{opened-shows, demand-3-calls}
+use Rattle.calls.specs.ExactCountsCalls.{exact-counts-calls}
 use Rattle.promises.specs.CallsFor.{allMade, CallsFor, calls-for}
 
 -- the batch in an output of ten numbers, of which Send has written the first five
@@ -84,7 +86,8 @@ module _ (before : Player) where
   unfolding computed
   first-done = refl
 
-  -- A result to be read: a list of calls of every kind that meet their promises, what window 0 has then taken, and demand 3 of it.
+  -- A result to be read: a list of calls of every kind that meet their promises, what window 0 has then taken, and demand 3 and
+  -- the counts of Takes and Mains of it.
   pub record Ran : Type 0 where
     pub calls : List Call
     pub steps : map callStep calls ≡ everyKind
@@ -92,6 +95,7 @@ module _ (before : Player) where
     pub taken : endAt 0 (hostAfter host0 calls) .taken ≡ taken0
     pub leading : Leading (hostAfter host0 calls .journal) 0 (endAt 0 (hostAfter host0 calls))
     pub delivers : Delivers 2 0 host0 calls
+    pub counts : Counts 2 0 host0 calls
 
   pub ran : Ran
   ran =
@@ -109,4 +113,5 @@ module _ (before : Player) where
             ∙ every-kind .taken;
         leading = delivers .leading 0 (omega arith);
         delivers = delivers;
+        counts = exact-counts-calls before journal3 2 2 0 begun begun-starts refl (c .calls) (c .made);
       }

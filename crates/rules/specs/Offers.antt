@@ -15,8 +15,8 @@ pub use Rattle.rules.specs.Main.{mainRule-refusals, enqueue-suspended, e
 pub use Rattle.rules.specs.Catch.{catchRule-refusals, oneIf, fetched-more, fetched-last, fetched-batches, Caught, catchEffect, catchRule-lawful, catchRule-can}
 -- The batch of a Send: its closed form; what is ready, of which it is the first; what it leaves of the window.
 pub use Rattle.rules.specs.Batch.{isEmpty-some, isEmpty-drop, batchOf-normal, batchOf-fetching, batchOf-more, batchOf-all, batchOf-drained, batchOf-suspended, batchOf-most, batchOf-queued, readyOf, readyOf-here, TakesReady, batchOf-ready, ConditionAfter, same, emptied, batchOf-condition, batchOf-untouched}
--- Send: the window after a batch; what its answer 0 tells; when it is answered 0.
-pub use Rattle.rules.specs.Send.{sendRule-refusals, launched-is, launched-ready, SentOut, sendAt-refuses, sendAt-done, sendAt-can, sendEffect, sendRule-lawful, sendRule-done, sendRule-can}
+-- Send: the window after a batch; how many numbers a batch has; what its answer 0 tells; when it is answered 0.
+pub use Rattle.rules.specs.Send.{sendRule-refusals, launched-is, launched-ready, batchNumbers-length, SentOut, sendAt-refuses, sendAt-done, sendAt-can, sendEffect, sendRule-lawful, sendRule-done, sendRule-can}
 -- Written: what its answer 0 tells; when it is answered 0.
 pub use Rattle.rules.specs.Written.{writtenRule-refusals, WrittenOff, writtenEffect, writtenRule-lawful, writtenRule-can}
 -- Ack: the batches that it leaves; what its answer 0 tells; when it is answered 0.

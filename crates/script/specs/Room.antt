@@ -27,7 +27,7 @@ use Rattle.delivery.specs.Invariant.{backIndices, endsOf, Inv, Reached}
 use Rattle.delivery.specs.Lines.{endsOf-append, onLine-ends, unacked-none}
 use Rattle.delivery.specs.KeepSend.{launchedSide}
 use Rattle.delivery.specs.Worlds.{withSide-count}
-use Rattle.delivery.specs.Effects.{acksEarly, Worked, caught, sent, written, took, acked, stays, mains, works, Facts, working, dropping, joining}
+use Rattle.delivery.specs.Effects.{Worked, caught, sent, written, took, acked, stays, mains, works, Facts, working, dropping, joining}
 use Rattle.delivery.specs.Effects.{starting, appending}
 use Rattle.delivery.specs.SteppedAll.{step-facts}
 use Rattle.delivery.specs.Reach.{reached-step}
@@ -151,21 +151,6 @@ sent-roomy j limit size p few out r =
       batches = omega (arith, held, ends, out .few);
     }
 
--- a script's Take acks the last of a batch alone
-worked-roomy : (j : List Entry) (c limit w : ℕ) (p p′ : Side) → limit ≤ 2 → Inv j c w p → RoomySide p → Worked j limit w false p p′ →
-    RoomySide p′
-worked-roomy j c limit w p p′ few inv r (caught t i d e) =
-    rw e
-    (record {
-      pairs = r .pairs;
-      unacked = λ h. fetched-batches (wanted j w i (p .view)) i (d .upto) (p .view) ∙ r .unacked (ap isSuspended (d .was));
-      batches = r .batches;
-    })
-worked-roomy j c limit w p p′ few inv r (written t d e) = rw e (record { pairs = r .pairs; unacked = r .unacked; batches = r .batches })
-worked-roomy j c limit w p p′ few inv r (took s rest front e) = rw e (took-roomy s rest p front r)
-worked-roomy j c limit w p p′ few inv r (acked a rest front d e) = rw e (acked-roomy a rest p front inv (d .here) r)
-worked-roomy j c limit w p p′ few inv r (sent size d e) = rw e (sent-roomy j limit size p few d r)
-
 -- Main changes no line and no batch
 main-roomy : (j : List Entry) (w i : ℕ) (p : Side) → RoomySide p → RoomySide (withView (mainAt j w i (p .view)) p)
 main-roomy j w i p r = record {
@@ -204,18 +189,23 @@ stepIn-scripted wd (At Drop w) = refl
 stepIn-scripted wd (At Join w) = refl
 stepIn-scripted wd (At Take w) = refl
 
-scripted-acks : (s : W.Step) → scripted s ≡ true → acksEarly s ≡ false
-scripted-acks (W.main i) e = refl
-scripted-acks (W.catch w t i) e = refl
-scripted-acks (W.written w t) e = refl
-scripted-acks (W.send w out) e = refl
-scripted-acks (W.take w acks) e = not-true acks e
-scripted-acks (W.ack w) e = refl
-scripted-acks (W.late-ack w t i) e = refl
-scripted-acks (W.drop w) e = refl
-scripted-acks (W.join w) e = refl
-scripted-acks (W.start b silent) e = refl
-scripted-acks (W.append x) e = refl
+-- a script's Take acks the last of a batch alone
+worked-roomy : (j : List Entry) (c limit w : ℕ) (s : W.Step) (reply : W.Reply) (p p′ : Side) → scripted s ≡ true → limit ≤ 2 → Inv j c w p →
+    RoomySide p → Worked j limit w s reply p p′ → RoomySide p′
+worked-roomy j c limit w s reply p p′ script few inv r (caught t i is d e) =
+    rw e
+    (record {
+      pairs = r .pairs;
+      unacked = λ h. fetched-batches (wanted j w i (p .view)) i (d .upto) (p .view) ∙ r .unacked (ap isSuspended (d .was));
+      batches = r .batches;
+    })
+worked-roomy j c limit w s reply p p′ script few inv r (written t is d e) =
+    rw e (record { pairs = r .pairs; unacked = r .unacked; batches = r .batches })
+worked-roomy j c limit w s reply p p′ script few inv r (took acks is x rest front replied e) =
+    let last : acks ≡ false = not-true acks (sym (ap scripted is) ∙ script) in
+    rw (e, last) (took-roomy x rest p front r)
+worked-roomy j c limit w s reply p p′ script few inv r (acked is x rest front d e) = rw e (acked-roomy x rest p front inv (d .here) r)
+worked-roomy j c limit w s reply p p′ script few inv r (sent out is d e) = rw e (sent-roomy j limit (length out) p few d r)
 
 -- a side replaced
 placed-roomy : (wd : World) (v : ℕ) (p : Side) → v < length (wd .sides) → ((w : ℕ) → w < length (wd .sides) → RoomySide (sideAt w wd)) →
@@ -235,14 +225,14 @@ module _ (wd : World) (s : W.Step) (is : scripted s ≡ true) (r : Roomy wd) whe
 
   roomy-facts : Facts s wd → After (W.step s wd .world)
   unfolding endsOf
-  roomy-facts (working quiet (stays e)) = subst⁻¹ After e (r .each)
-  roomy-facts (working quiet (mains m)) =
+  roomy-facts (working quiet (stays idle e)) = subst⁻¹ After e (r .each)
+  roomy-facts (working quiet (mains i same done m)) =
       λ w h.
       subst⁻¹ RoomySide (m .each w (omega (arith, m .count)))
       (main-roomy (wd .journal) w (suc (wd .current)) (sideAt w wd) (r .each w (omega (arith, m .count))))
   roomy-facts (working quiet (works v l p work e shaped)) =
-      after-side v p _ l e (worked-roomy (wd .journal) (wd .current) (wd .limit) v (sideAt v wd) p (r .limit) (r .reached .each v l)
-      (r .each v l) (subst (λ b. Worked (wd .journal) (wd .limit) v b (sideAt v wd) p) (scripted-acks s is) work))
+      after-side v p _ l e
+      (worked-roomy (wd .journal) (wd .current) (wd .limit) v s _ (sideAt v wd) p is (r .limit) (r .reached .each v l) (r .each v l) work)
   roomy-facts (dropping v same done l e shaped) =
       let q = r .each v l in
       after-side v _ _ l e (record { pairs = q .pairs; unacked = λ h. absurd (true≢false h); batches = q .batches })

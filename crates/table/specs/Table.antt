@@ -8,6 +8,7 @@ use native.Mathlib.Omega.{arith}
 use borrow.Author.Tests.{lt-ltb, le-ltb, eq-eqb, ne-eqb}
 use lib.ListN.{length, take, drop}
 use lib.Dec.{eqb}
+use Rattle.lists.specs.Answer.{answer}
 use Rattle.journal.specs.Entry.{numbersOf, entriesOf}
 use Rattle.record.specs.declared.Record.{Record}
 use Rattle.record.specs.Record.{Outcome, takeNumbers, mayStamp}
@@ -19,7 +20,7 @@ use Rattle.rules.specs.Rules.{windowAt, mainRule, joinRule, sendRule, batchAt}
 use Rattle.rules.specs.Offers.{shaped, operated-at, mainRule-refusals, sendRule-refusals, joinRule-refusals, mainAt-room, mainAt-normal, readyOf, launched-ready, sendRule-done, joinRule-done, joinRule-can}
 use Rattle.journal_text.specs.Text.{header}
 use Rattle.journal_text.specs.Scan.{scan}
-use Rattle.journal_text.specs.Answers.{Current, answer}
+use Rattle.journal_text.specs.Answers.{Current}
 use Rattle.journal_text.specs.AnswerLaws.{Reads, reads-good, reads-bad}
 use Rattle.table.specs.Run.{RunA, row-a, StageA, row-a-stage}
 use Rattle.table.specs.States.{OneMore, oneMore-wanted, oneMore-window, EightOut, eightOut-within, eightOut-here, MoreReady, moreReady-taken, moreReady-length, moreReady-answer, Away, CanTake, canTake-below, canTake-post, canTake-close, OpenUntil, openUntil-stamps, StillClosed, closed-post, lent-answer, lent-count}

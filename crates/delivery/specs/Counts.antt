@@ -1,0 +1,83 @@
+-- Document 02, W4: how many Takes and Mains are answered 0 since the last fault or append, stated exactly. The file imports definitions
+-- alone. The paper's words stand beside each part.
+use Prim.Native.Nat.{ℕ, suc, _-_, _<_}
+use mathlib.Core.Path.{_≡_}
+use mathlib.Core.List.{List, [], _∷_}
+use mathlib.Core.Bool.{Bool, true, false, cond, _&&_}
+use lib.ListN.{length}
+use lib.Dec.{eqb}
+use Rattle.journal.specs.declared.Entry.{Entry}
+use Rattle.rules.specs.View.{PlayerView}
+use Rattle.rules.specs.Rules.{speaks}
+use Rattle.planner.specs.Plan.{Figures, figures, planned, planRule}
+use Rattle.delivery.specs.World.{World, sideAt, numbersIn, Step, main, catch, written, send, take, ack, late-ack, drop, join, start, append, Stepped, step, run, opened}
+use Rattle.delivery.specs.Statement.{isDone, begins, joinedAfter, NoneCan, firstStart}
+
+-- a Take of window w
+abbrev pub isTakeOf : ℕ → Step → Bool
+isTakeOf w (main i) = false
+isTakeOf w (catch v t i) = false
+isTakeOf w (written v t) = false
+isTakeOf w (send v out) = false
+isTakeOf w (take v acks) = eqb v w
+isTakeOf w (ack v) = false
+isTakeOf w (late-ack v t i) = false
+isTakeOf w (drop v) = false
+isTakeOf w (join v) = false
+isTakeOf w (start b silent) = false
+isTakeOf w (append e) = false
+
+-- a Main
+abbrev pub isMain : Step → Bool
+isMain (main i) = true
+isMain (catch v t i) = false
+isMain (written v t) = false
+isMain (send v out) = false
+isMain (take v acks) = false
+isMain (ack v) = false
+isMain (late-ack v t i) = false
+isMain (drop v) = false
+isMain (join v) = false
+isMain (start b silent) = false
+isMain (append e) = false
+
+-- The number of steps of a kind answered 0 since the last fault or append; n of them are counted before the list.
+unfoldable pub doneSince : (Step → Bool) → ℕ → World → List Step → ℕ
+doneSince kind n wd [] = n
+doneSince kind n wd (s ∷ ss) =
+    let r : Stepped = step s wd in
+    doneSince kind (cond (begins s (r .reply)) 0 (cond (kind s && isDone (r .reply)) (suc n) n)) (r .world) ss
+
+-- The world as the last fault or append left it; where the list has none, the one given, which is that after the first Start.
+unfoldable pub leftBy : World → World → List Step → World
+leftBy given wd [] = given
+leftBy given wd (s ∷ ss) = let r : Stepped = step s wd in leftBy (cond (begins s (r .reply)) (r .world) given) (r .world) ss
+
+-- the last index in window w's record
+abbrev pub lastAt : ℕ → World → ℕ
+lastAt w wd = sideAt w wd .record′ .last .0
+
+-- the planner's figures of window w: from the last index that its record had in the world `left`, with the journal and the batch limit as
+-- they now are
+abbrev pub figuresFor : ℕ → (left now : World) → Figures
+figuresFor w left now = figures (now .journal) w (lastAt w left) (now .limit)
+
+-- the results, for W windows, the set of those silent at the first Start, the world after it, and a list of steps from there
+pub record Counts (count silent : ℕ) (wd : World) (steps : List Step) : Type 0 where
+  -- the planner, asked of any window, answers 0 with these figures
+  pub asked : (w : ℕ) → w < count →
+      let left : World = leftBy wd wd steps in
+      let now : World = run wd steps in
+      planRule (numbersIn now) w (lastAt w left) (now .limit) ≡ planned (figuresFor w left now)
+  -- with all windows joined, when none can, the Takes of each window answered 0 since the last fault or append are its first figure
+  pub takes : ((w : ℕ) → w < count → joinedAfter w (speaks silent w) wd steps ≡ true) → NoneCan (run wd steps) →
+      (w : ℕ) → w < count → doneSince (isTakeOf w) 0 wd steps ≡ figuresFor w (leftBy wd wd steps) (run wd steps) .entries
+  -- with all windows joined, when none can, the Mains answered 0 since then are L minus `current` as it was left
+  pub mains : ((w : ℕ) → w < count → joinedAfter w (speaks silent w) wd steps ≡ true) → NoneCan (run wd steps) →
+      doneSince isMain 0 wd steps ≡ length (run wd steps .journal) - leftBy wd wd steps .current
+
+-- W4's counts, of whatever demand 3 speaks of
+abbrev pub ExactCounts : Type 0
+ExactCounts =
+    (before : PlayerView) (j : List Entry) (count limit silent : ℕ) (steps : List Step) →
+    firstStart before j count limit silent .answer ≡ 0 → Counts count silent (opened j (firstStart before j count limit silent)) steps
