@@ -14,7 +14,7 @@ use Rattle.rules.specs.Window.{Report}
 use Rattle.rules.specs.Rules.{mainRule, catchRule, writtenRule, ackRule, dropRule, joinRule, sendRule, startRule}
 use Rattle.rules.specs.Offers.{startRule-refusals, mainRule-refusals, catchRule-refusals, sendRule-refusals, writtenRule-refusals, ackRule-refusals, dropRule-refusals, joinRule-refusals}
 use Rattle.window.specs.declared.Answer.{Answer}
-use Rattle.window.specs.declared.Answer.the-variants.{Done, OutOfShape, NoSuchWindow, Suspended, NothingToRead, OtherTerm, OtherIndex, NothingReady, LineState, TooManyBatches, CatchUpFull, BadAck, NotSuspended, BadReport, LastTerm, OutputTooShort}
+use Rattle.window.specs.declared.Answer.the-variants.{Done, OutOfShape, NoSuchWindow, Suspended, NothingToRead, OtherTerm, OtherIndex, NothingReady, LineState, TooManyBatches, CatchUpFull, BadAck, NotSuspended, BadReport, LastTerm, OutputTooShort, BadSpacing}
 use Rattle.window.specs.Promise.{numberOf}
 
 -- an answer with this number
@@ -25,7 +25,7 @@ pub record Numbered (n : ℕ) : Type 0 where
 abbrev answers : List Answer
 answers =
     Done ∷ OutOfShape ∷ NoSuchWindow ∷ Suspended ∷ NothingToRead ∷ OtherTerm ∷ OtherIndex ∷ NothingReady ∷ LineState ∷ TooManyBatches
-    ∷ CatchUpFull ∷ BadAck ∷ NotSuspended ∷ BadReport ∷ LastTerm ∷ OutputTooShort ∷ []
+    ∷ CatchUpFull ∷ BadAck ∷ NotSuspended ∷ BadReport ∷ LastTerm ∷ OutputTooShort ∷ BadSpacing ∷ []
 
 -- whether one of some answers has this number
 isIn : List Answer → ℕ → Bool
@@ -59,10 +59,10 @@ cond-same false x = refl
 -- ------------------------------------------------------------------------
 -- The rules
 
-pub start-numbered : (ns : List ℕ) (count limit : ℕ) (reports : List Report) (p : PlayerView) →
-    Numbered (startRule ns count limit reports p .answer)
-start-numbered ns count limit reports p =
-    numbered answers _ (simp (startRule-refusals ns count limit reports p, cond-in, done-in, cond-same))
+pub start-numbered : (ns : List ℕ) (count limit spacing : ℕ) (reports : List Report) (p : PlayerView) →
+    Numbered (startRule ns count limit spacing reports p .answer)
+start-numbered ns count limit spacing reports p =
+    numbered answers _ (simp (startRule-refusals ns count limit spacing reports p, cond-in, done-in, cond-same))
 
 pub main-numbered : (ns : List ℕ) (i : ℕ) (p : PlayerView) → Numbered (mainRule ns i p .answer)
 main-numbered ns i p = numbered answers _ (simp (mainRule-refusals ns i p, cond-in, done-in, cond-same))

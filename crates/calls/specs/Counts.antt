@@ -1,5 +1,5 @@
--- Document 02, W4, of the calls: how many Takes and Mains are answered 0 since the last fault or append, stated exactly. The file imports
--- definitions alone. The paper's words stand beside each part.
+-- Document 02, W4, its Takes read without ticks (W5), of the calls: how many Takes and Mains are answered 0 since the last fault or append,
+-- stated exactly. The file imports definitions alone. The paper's words stand beside each part.
 use Prim.Native.Nat.{ℕ, suc, _-_, _<_}
 use mathlib.Core.Path.{_≡_}
 use mathlib.Core.List.{List, [], _∷_}
@@ -15,25 +15,25 @@ use Rattle.player.specs.declared.Played.{Played}
 use Rattle.player.specs.View.{playerOf}
 use Rattle.planner.specs.Plan.{Figures, figures, planned, planRule}
 use Rattle.calls.specs.Host.{Sent, Host, endAt, Call, main, catch, written, send, take, ack, late-ack, drop, join, start, append, reportOf, isDone, after, MadeAll, hostAfter, opened}
-use Rattle.calls.specs.Statement.{begins, joinedAfter, NoneCan, FirstStart}
+use Rattle.calls.specs.Statement.{begins, joinedAfter, NoneCan, isOwnFive, FirstStart}
 
--- a Take from a line is answered 0; from an empty line no Take is made
-abbrev pub tookFrom : List Sent → Taken → Bool
-tookFrom [] t = false
-tookFrom (s ∷ rest) t = eqb (Take.numberOf (t .answer)) 0
+-- a Take from a line is of one of window w's own, and no tick, and is answered 0; from an empty line no Take is made
+abbrev pub tookFrom : ℕ → List Sent → Taken → Bool
+tookFrom w [] t = false
+tookFrom w (s ∷ rest) t = isOwnFive w (s .numbers) && eqb (Take.numberOf (t .answer)) 0
 
--- a Take of window w answered 0
+-- a Take of window w, of one of its own, answered 0
 abbrev pub takenAt : ℕ → Call → Host → Bool
 takenAt w (main i r) h = false
 takenAt w (catch v t i r) h = false
 takenAt w (written v t r) h = false
 takenAt w (send v lent r out) h = false
-takenAt w (take v acks t) h = eqb v w && tookFrom (endAt v h .line) t
+takenAt w (take v acks t) h = eqb v w && tookFrom w (endAt v h .line) t
 takenAt w (ack v r) h = false
 takenAt w (late-ack v t i r) h = false
 takenAt w (drop v r) h = false
 takenAt w (join v r) h = false
-takenAt w (start limit silent r) h = false
+takenAt w (start limit spacing silent r) h = false
 takenAt w (append e) h = false
 
 -- a Main answered 0
@@ -47,7 +47,7 @@ mainRead (ack v r) h = false
 mainRead (late-ack v t i r) h = false
 mainRead (drop v r) h = false
 mainRead (join v r) h = false
-mainRead (start limit silent r) h = false
+mainRead (start limit spacing silent r) h = false
 mainRead (append e) h = false
 
 -- The number of calls since the last fault or append that a test picks; n of them are counted before the list.
@@ -80,7 +80,8 @@ pub record Counts (count silent : ℕ) (h : Host) (calls : List Call) : Type 0 w
       let left : Host = leftBy h h calls in
       let now : Host = hostAfter h calls in
       planRule (now .journal) w (lastAt w left) (limitIn now) ≡ planned (figuresFor w left now)
-  -- with all windows joined, when none can, the Takes of each window answered 0 since the last fault or append are its first figure
+  -- with all windows joined, when none can, the Takes of each window answered 0 since the last fault or append, ticks left out, are its
+  -- first figure
   pub takes : ((w : ℕ) → w < count → joinedAfter w (speaks silent w) calls ≡ true) → NoneCan (hostAfter h calls) →
       (w : ℕ) → w < count → doneSince (takenAt w) 0 h calls ≡ figuresFor w (leftBy h h calls) (hostAfter h calls) .entries
   -- with all windows joined, when none can, the Mains answered 0 since then are L minus `current` as it was left
@@ -90,6 +91,6 @@ pub record Counts (count silent : ℕ) (h : Host) (calls : List Call) : Type 0 w
 -- W4's counts of the calls, of whatever demand 3 of the calls speaks of
 abbrev pub ExactCountsCalls : Type 0
 ExactCountsCalls =
-    (before : Player) (ns : List ℕ) (count limit silent : ℕ) (r : Played) →
-    FirstStart before ns count limit silent r → numberOf (r .answer) ≡ 0 →
+    (before : Player) (ns : List ℕ) (count limit spacing silent : ℕ) (r : Played) →
+    FirstStart before ns count limit spacing silent r → numberOf (r .answer) ≡ 0 →
     (calls : List Call) → MadeAll (opened (r .player) ns count) calls → Counts count silent (opened (r .player) ns count) calls

@@ -1,15 +1,20 @@
 -- Demand 3 holds of the calls.
 use Prim.Native.Nat.{ℕ, _+_, _*_, _≤_, _<_}
-use mathlib.Core.Path.{_≡_, refl, sym, ap, subst₂, _∙_}
+use mathlib.Core.Path.{_≡_, refl, sym, ap, ap₂, subst, subst₂, _∙_}
 use mathlib.Core.List.{List, [], _∷_, map, map-map, map-id}
-use mathlib.Core.Bool.{true}
-use borrow.Author.Tests.{eqb-true}
-use lib.ListN.{length, replicate, take}
-use Rattle.journal.specs.Entry.{numbersOf, entriesOf, countOf, fiveOf}
+use mathlib.Core.Bool.{Bool, true, false, cond, _&&_, _||_, and-true}
+use borrow.Author.Tests.{eqb-true, eq-eqb}
+use lib.ListN.{length, replicate, length-map}
+use Rattle.journal.specs.Entry.{Placed, numbersOf, entriesOf, countOf, fiveOf}
 use Rattle.journal.specs.EntryLaws.{numbersOf-entriesOf}
-use Rattle.journal.specs.Own.{own}
+use Rattle.journal.specs.Own.{own, isOwn, ownOf}
 use Rattle.lists.specs.Cases.{and-left}
-use Rattle.record.specs.Record.{newRecord, takeAll}
+use Rattle.lists.specs.All.{all}
+use Rattle.lists.specs.Elem.{lastOr}
+use Rattle.lists.specs.Keep.{keep}
+use Rattle.record.specs.declared.Record.{Record}
+use Rattle.record.specs.Record.{newRecord, takeEntry, takeAll}
+use Rattle.record.specs.Laws.{takeNumbers-placed}
 use Rattle.rules.specs.View.{WindowView}
 use Rattle.rules.specs.Window.{Report}
 use Rattle.rules.specs.Rules.{Outcome, speaks, startRule}
@@ -18,20 +23,63 @@ use Rattle.window.specs.Promise.{numberOf}
 use Rattle.player.specs.declared.Player.{Player}
 use Rattle.player.specs.declared.Played.{Played}
 use Rattle.player.specs.View.{playerOf}
-use Rattle.delivery.specs.World.{World, newSide, sideAt, playerIn, Step, run}
+use Rattle.delivery.specs.World.{Side, World, newSide, sideAt, playerIn, Step, run}
 use Rattle.delivery.specs.World as W
-use Rattle.delivery.specs.Statement.{newReports, firstStart}
+use Rattle.delivery.specs.Statement.{isTick, newReports, firstStart}
 use Rattle.delivery.specs.Statement as Delivery
+use Rattle.delivery.specs.Same.{sameList}
 use Rattle.delivery.specs.Invariant.{Reached}
 use Rattle.delivery.specs.Worlds.{entries-in, count-in}
 use Rattle.delivery.specs.Reach.{reached-run}
 use Rattle.delivery.specs.Demand3.{opened-reached, demand-3}
-use Rattle.calls.specs.Host.{Host, newEnd, endAt, Call, MadeAll, hostAfter, opened}
-use Rattle.calls.specs.Statement.{joinedAfter, NoneCan, Leading, Delivers, FirstStart, Demand3Calls}
+use Rattle.calls.specs.Host.{indexOf, Host, newEnd, endAt, Call, MadeAll, hostAfter, opened}
+use Rattle.calls.specs.Statement.{joinedAfter, NoneCan, isOwnFive, ownFives, isTickFive, takeFives, Leading, Delivers, FirstStart, Demand3Calls}
 use Rattle.calls.specs.Shows.{endOf, Shows, shows-end}
 use Rattle.calls.specs.Steps.{callStep}
 use Rattle.calls.specs.Runs.{hostAfter-shows, changes-steps, joinedAfter-steps}
 use Rattle.calls.specs.NoneCan.{none-steps}
+
+-- ------------------------------------------------------------------------
+-- What is taken, as five numbers each
+
+-- the numbers of an entry are a tick's, and are the window's own, exactly if the entry is
+isTickFive-of : (x : Placed) → isTickFive (fiveOf x) ≡ isTick x
+unfolding sameList
+isTickFive-of x = simp (eq-eqb (x .index) (x .index) refl, and-true)
+
+ownFives-of : (w : ℕ) (xs : List Placed) → ownFives w (map fiveOf xs) ≡ map fiveOf (ownOf w xs)
+unfolding keep
+ownFives-of w [] = refl
+ownFives-of w (x ∷ xs) = by (isOwn w x) (ownFives-of w xs)
+  where
+    by : (b : Bool) → ownFives w (map fiveOf xs) ≡ map fiveOf (ownOf w xs) →
+        cond b (fiveOf x ∷ ownFives w (map fiveOf xs)) (ownFives w (map fiveOf xs)) ≡ map fiveOf (cond b (x ∷ ownOf w xs) (ownOf w xs))
+    by true e = ap (λ l. fiveOf x ∷ l) e
+    by false e = e
+
+others-of : (w : ℕ) (xs : List Placed) →
+    all (λ five. isOwnFive w five || isTickFive five) (map fiveOf xs) ≡ all (λ x. isOwn w x || isTick x) xs
+unfolding all
+others-of w [] = refl
+others-of w (x ∷ xs) = ap₂ (λ t b. (isOwn w x || t) && b) (isTickFive-of x) (others-of w xs)
+
+-- and Take makes of them what it makes of the entries
+takeFives-of : (xs : List Placed) (r : Record) → takeFives (map fiveOf xs) r ≡ takeAll xs r
+unfolding takeFives takeAll
+takeFives-of [] r = refl
+takeFives-of (x ∷ xs) r =
+    ap (λ o. takeFives (map fiveOf xs) (o .record′)) (takeNumbers-placed x r) ∙ takeFives-of xs (takeEntry x r .record′)
+
+leading-of : (ns : List ℕ) (w : ℕ) (p : Side) → Delivery.Leading (entriesOf ns) w p → Leading ns w (endOf p)
+leading-of ns w p l = record {
+  k = l .k;
+  list = ownFives-of w (p .taken) ∙ ap (map fiveOf) (l .list);
+  others = others-of w (p .taken) ∙ l .others;
+  folded = l .folded ∙ sym (takeFives-of (p .taken) newRecord);
+  races = l .races;
+  count = l .count ∙ sym (length-map (p .taken) fiveOf);
+  last = l .last ∙ ap (lastOr 0) (sym (map-map indexOf fiveOf (p .taken)));
+}
 
 -- ------------------------------------------------------------------------
 -- What the world has, the host has
@@ -44,13 +92,9 @@ module _ {h : Host} {wd : World} (is : Shows h wd) where
   length-shown = ap countOf (is .journal) ∙ count-in wd
 
   leading-shown : (w : ℕ) → Delivery.Leading (wd .journal) w (sideAt w wd) → Leading (h .journal) w (endAt w h)
-  leading-shown w l = record {
-    k = l .k;
-    list =
-        ap (λ d. d .taken) (shows-end is w) ∙ ap (map fiveOf) (l .list) ∙ ap (λ j. map fiveOf (take (l .k) (own j w))) (sym entries-shown);
-    folded =
-        ap (λ d. d .record′) (shows-end is w) ∙ l .folded ∙ ap (λ j. takeAll (take (l .k) (own j w)) newRecord) (sym entries-shown);
-  }
+  leading-shown w l =
+      subst (Leading (h .journal) w) (sym (shows-end is w))
+      (leading-of (h .journal) w (sideAt w wd) (subst (λ j. Delivery.Leading j w (sideAt w wd)) (sym entries-shown) l))
 
 module _ (count : ℕ) {h : Host} {wd : World} (is : Shows h wd) (reached : Reached wd) (calls : List Call) (made : MadeAll h calls) where
   abbrev steps : List Step
@@ -74,7 +118,8 @@ module _ (count : ℕ) {h : Host} {wd : World} (is : Shows h wd) (reached : Reac
             subst₂ (λ n m. n ≤ m * (1 + 5 * count)) (sym (changes-steps 0 is reached calls made))
             (sym (length-shown shown)) (d .bound (joined-shown silent j));
         finish = λ j none w l.
-            ap (λ e. e .taken) (shows-end shown w)
+            ap (λ e. ownFives w (e .taken)) (shows-end shown w)
+            ∙ ownFives-of w (sideAt w (run wd steps) .taken)
             ∙ ap (map fiveOf) (d .finish (joined-shown silent j) (none-shown none) w l)
             ∙ ap (λ j. map fiveOf (own j w)) (sym (entries-shown shown));
       }
@@ -87,33 +132,38 @@ newSide-ends : (vs : List WindowView) → map endOf (map newSide vs) ≡ replica
 newSide-ends [] = refl
 newSide-ends (v ∷ vs) = ap (λ l. newEnd ∷ l) (newSide-ends vs)
 
-module _ (before : Player) (ns : List ℕ) (count limit silent : ℕ) (r : Played) (made : FirstStart before ns count limit silent r)
-    (done : numberOf (r .answer) ≡ 0) where
+module _ (before : Player) (ns : List ℕ) (count limit spacing silent : ℕ) (r : Played)
+    (made : FirstStart before ns count limit spacing silent r) (done : numberOf (r .answer) ≡ 0) where
   abbrev told-first : List Report
   told-first = newReports silent count
 
   abbrev first : Outcome
-  first = startRule ns count limit told-first (playerOf before)
+  first = startRule ns count limit spacing told-first (playerOf before)
 
   abbrev firstIn : Outcome
-  firstIn = firstStart (playerOf before) (entriesOf ns) count limit silent
+  firstIn = firstStart (playerOf before) (entriesOf ns) count limit spacing silent
 
-  started-done : StartDone ns count limit told-first first
-  started-done = startRule-done ns count limit told-first (playerOf before) (sym (made .answer) ∙ done)
+  started-done : StartDone ns count limit spacing told-first first
+  started-done = startRule-done ns count limit spacing told-first (playerOf before) (sym (made .answer) ∙ done)
 
   -- a journal that Start takes is the numbers of its entries
   whole : numbersOf (entriesOf ns) ≡ ns
   whole = numbersOf-entriesOf ns (eqb-true _ _ (and-left _ _ (started-done .given .journal)))
 
   first-same : firstIn ≡ first
-  first-same = ap (λ ns. startRule ns count limit told-first (playerOf before)) whole
+  first-same = ap (λ ns. startRule ns count limit spacing told-first (playerOf before)) whole
 
   pub opened-shows : Shows (opened (r .player) ns count) (W.opened (entriesOf ns) firstIn)
   unfolding W.opened
   opened-shows = record {
     player =
         made .next
-        ∙ ap (λ vs. record { limit = first .next .limit; current = first .next .current; windows = vs })
+        ∙ ap (λ vs. record {
+          limit = first .next .limit;
+          spacing = first .next .spacing;
+          current = first .next .current;
+          windows = vs;
+        })
         (sym (map-map (λ p. p .view) newSide (first .next .windows) ∙ map-id (first .next .windows)))
         ∙ ap (λ o. playerIn (W.opened (entriesOf ns) o)) (sym first-same);
     journal = sym whole;
@@ -127,10 +177,10 @@ module _ (before : Player) (ns : List ℕ) (count limit silent : ℕ) (r : Playe
   first-done = ap (λ o. o .answer) first-same ∙ sym (made .answer) ∙ done
 
   delivers : (calls : List Call) → MadeAll (opened (r .player) ns count) calls → Delivers count silent (opened (r .player) ns count) calls
-  delivers calls all =
-      delivers-shown count opened-shows (opened-reached (playerOf before) (entriesOf ns) count limit silent first-done) calls all silent
-      (demand-3 (playerOf before) (entriesOf ns) count limit silent (map callStep calls) first-done)
+  delivers calls met =
+      delivers-shown count opened-shows (opened-reached (playerOf before) (entriesOf ns) count limit spacing silent first-done) calls met
+      silent (demand-3 (playerOf before) (entriesOf ns) count limit spacing silent (map callStep calls) first-done)
 
--- Demand 3 of the calls, for every W, batch limit, set of silent windows, journal and list of calls
+-- Demand 3 of the calls, for every W, batch limit, spacing, set of silent windows, journal and list of calls
 pub demand-3-calls : Demand3Calls
-demand-3-calls before ns count limit silent r made done calls all = delivers before ns count limit silent r made done calls all
+demand-3-calls = delivers

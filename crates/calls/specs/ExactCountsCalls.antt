@@ -3,13 +3,14 @@ use Prim.Native.Nat.{ℕ, suc, _≤_, _<_}
 use mathlib.Core.Path.{_≡_, refl, sym, ap, ap₂, subst, _∙_}
 use mathlib.Core.Logic.{⊎-elim}
 use mathlib.Core.List.{List, [], _∷_, map}
-use mathlib.Core.Bool.{Bool, true, false, cond, _&&_}
+use mathlib.Core.Bool.{Bool, true, false, cond, _&&_, and-assoc}
 use native.Mathlib.Omega.{arith}
 use borrow.Author.Tests.{lt-ltb, le-ltb}
 use lib.ListN.{length}
 use lib.Dec.{eqb}
 use Rattle.lists.specs.Cases.{le-or-lt}
 use Rattle.journal.specs.Entry.{entriesOf}
+use Rattle.journal.specs.Own.{isOwn}
 use Rattle.record.specs.declared.Taken.{Taken}
 use Rattle.rules.specs.Rules.{mainRule}
 use Rattle.player.specs.View.{playerOf}
@@ -17,7 +18,7 @@ use Rattle.planner.specs.Plan.{figures, planned, planRule}
 use Rattle.delivery.specs.World.{World, sideAt, takeAtLine, Step, step, run}
 use Rattle.delivery.specs.World as W
 use Rattle.delivery.specs.Statement as Delivery
-use Rattle.delivery.specs.Counts.{isTakeOf, isMain}
+use Rattle.delivery.specs.Counts.{ownFront, isTakeOf, isMain}
 use Rattle.delivery.specs.Counts as Counting
 use Rattle.delivery.specs.Invariant.{Reached}
 use Rattle.delivery.specs.Reach.{reached-step}
@@ -36,38 +37,38 @@ use Rattle.calls.specs.Demand3Calls.{entries-shown, length-shown, joined
 -- A call is counted as its step is
 
 module _ {h : Host} {wd : World} (is : Shows h wd) where
-  took-line : (w : ℕ) (acks : Bool) (t : Taken) (l : List W.Sent) → MadeTake t (map inNumbers l) (sideAt w wd .record′) →
-      tookFrom (map inNumbers l) t ≡ Delivery.isDone (takeAtLine w acks l wd .reply)
-  took-line w acks t [] made = refl
-  took-line w acks t (s ∷ rest) made = ap (λ o. eqb (o .number) 0) made
+  took-line : (w v : ℕ) (acks : Bool) (t : Taken) (l : List W.Sent) → MadeTake t (map inNumbers l) (sideAt v wd .record′) →
+      tookFrom w (map inNumbers l) t ≡ (ownFront w l && Delivery.isDone (takeAtLine v acks l wd .reply))
+  took-line w v acks t [] made = refl
+  took-line w v acks t (s ∷ rest) made = ap (λ o. isOwn w (s .placed) && eqb (o .number) 0) made
 
-  took-step : (w : ℕ) (acks : Bool) (t : Taken) → Made h (take w acks t) →
-      tookFrom (endAt w h .line) t ≡ Delivery.isDone (step (W.take w acks) wd .reply)
+  took-step : (w v : ℕ) (acks : Bool) (t : Taken) → Made h (take v acks t) →
+      tookFrom w (endAt v h .line) t ≡ (ownFront w (sideAt v wd .line) && Delivery.isDone (step (W.take v acks) wd .reply))
   unfolding step
-  took-step w acks t made =
-      ap (λ d. tookFrom (d .line) t) (shows-end is w)
+  took-step w v acks t made =
+      ap (λ d. tookFrom w (d .line) t) (shows-end is v)
       ∙ ⊎-elim
-      (λ (n : length (wd .sides) ≤ w). rw (le-ltb w (length (wd .sides)) n, sideAt-none wd w n))
-      (λ (n : w < length (wd .sides)).
-      rw (lt-ltb w (length (wd .sides)) n)
-      (took-line w acks t (sideAt w wd .line) (subst (λ d. MadeTake t (d .line) (d .record′)) (shows-end is w) made)))
-      (le-or-lt (length (wd .sides)) w)
+      (λ (n : length (wd .sides) ≤ v). rw (le-ltb v (length (wd .sides)) n, sideAt-none wd v n))
+      (λ (n : v < length (wd .sides)).
+      rw (lt-ltb v (length (wd .sides)) n)
+      (took-line w v acks t (sideAt v wd .line) (subst (λ d. MadeTake t (d .line) (d .record′)) (shows-end is v) made)))
+      (le-or-lt (length (wd .sides)) v)
 
   -- a test of calls picks those whose steps are of a kind and are answered 0
-  abbrev Picks : (Call → Host → Bool) → (Step → Bool) → Call → Type 0
-  Picks picks kind c = picks c h ≡ (kind (callStep c) && Delivery.isDone (step (callStep c) wd .reply))
+  abbrev Picks : (Call → Host → Bool) → (World → Step → Bool) → Call → Type 0
+  Picks picks kind c = picks c h ≡ (kind wd (callStep c) && Delivery.isDone (step (callStep c) wd .reply))
 
   takes-picked : (w : ℕ) (c : Call) → Made h c → Picks (takenAt w) (isTakeOf w) c
   takes-picked w (main i r) made = refl
   takes-picked w (catch v t i r) made = refl
   takes-picked w (written v t r) made = refl
   takes-picked w (send v lent r out) made = refl
-  takes-picked w (take v acks t) made = ap (λ b. eqb v w && b) (took-step v acks t made)
+  takes-picked w (take v acks t) made = ap (λ b. eqb v w && b) (took-step w v acks t made) ∙ sym (and-assoc (eqb v w) _ _)
   takes-picked w (ack v r) made = refl
   takes-picked w (late-ack v t i r) made = refl
   takes-picked w (drop v r) made = refl
   takes-picked w (join v r) made = refl
-  takes-picked w (start limit silent r) made = refl
+  takes-picked w (start limit spacing silent r) made = refl
   takes-picked w (append e) made = refl
 
   mains-picked : (c : Call) → Made h c → Picks mainRead isMain c
@@ -81,13 +82,13 @@ module _ {h : Host} {wd : World} (is : Shows h wd) where
   mains-picked (late-ack v t i r) made = refl
   mains-picked (drop v r) made = refl
   mains-picked (join v r) made = refl
-  mains-picked (start limit silent r) made = refl
+  mains-picked (start limit spacing silent r) made = refl
   mains-picked (append e) made = refl
 
 -- ------------------------------------------------------------------------
 -- A list of calls
 
-module _ (picks : Call → Host → Bool) (kind : Step → Bool)
+module _ (picks : Call → Host → Bool) (kind : World → Step → Bool)
     (law : (h : Host) (wd : World) (is : Shows h wd) (c : Call) → Made h c → Picks is picks kind c) where
   doneSince-steps : (n : ℕ) {h : Host} {wd : World} → Shows h wd → Reached wd → (cs : List Call) → MadeAll h cs →
       doneSince picks n h cs ≡ Counting.doneSince kind n wd (map callStep cs)
@@ -153,10 +154,10 @@ module _ (count silent : ℕ) {h : Host} {wd : World} (is : Shows h wd) (reached
         omega (arith, read-shown, length-shown now-shown);
   }
 
--- Document 02's counts of the calls, for every W, batch limit, set of silent windows, journal and list of calls
+-- Document 02's counts of the calls, for every W, batch limit, spacing, set of silent windows, journal and list of calls
 pub exact-counts-calls : ExactCountsCalls
-exact-counts-calls before ns count limit silent r made done calls all =
-    let first = first-done before ns count limit silent r made done in
-    counts-shown count silent (opened-shows before ns count limit silent r made done)
-    (opened-reached (playerOf before) (entriesOf ns) count limit silent first) calls all
-    (exact-counts (playerOf before) (entriesOf ns) count limit silent (map callStep calls) first)
+exact-counts-calls before ns count limit spacing silent r made done calls all =
+    let first = first-done before ns count limit spacing silent r made done in
+    counts-shown count silent (opened-shows before ns count limit spacing silent r made done)
+    (opened-reached (playerOf before) (entriesOf ns) count limit spacing silent first) calls all
+    (exact-counts (playerOf before) (entriesOf ns) count limit spacing silent (map callStep calls) first)

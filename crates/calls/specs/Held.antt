@@ -116,6 +116,7 @@ playerFrom : Player → PlayerView → Player
 playerFrom before q = record {
   count = length (q .windows);
   limit = q .limit;
+  spacing = q .spacing;
   current = record { 0 = q .current };
   windows = map windowFrom (q .windows) ++ drop (before .count) (before .windows);
 }
@@ -127,7 +128,8 @@ firstWindows-from (v ∷ vs) more = ap₂ _∷_ (viewOf-from v) (firstWindows-fr
 
 playerOf-from : (before : Player) (q : PlayerView) → playerOf (playerFrom before q) ≡ q
 unfolding playerOf playerFrom
-playerOf-from before q = ap (λ vs. record { limit = q .limit; current = q .current; windows = vs }) (firstWindows-from (q .windows) _)
+playerOf-from before q =
+    ap (λ vs. record { limit = q .limit; spacing = q .spacing; current = q .current; windows = vs }) (firstWindows-from (q .windows) _)
 
 -- what a call of the player gives
 pub record Given (before : Player) (o : Outcome) : Type 0 where

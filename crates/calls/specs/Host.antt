@@ -1,6 +1,6 @@
--- Document 01, "Whole runs", with document 02's acks (W1) and silent windows (W3), of the calls as `src/` has them: what a host holds, what
--- each call is handed and gives back, what the calls promise of that, and what the host holds afterwards. Each call is handed the player,
--- record and journal as the calls before left them.
+-- Document 01, "Whole runs", with document 02's acks (W1), silent windows (W3) and ticks (W5), of the calls as `src/` has them: what a host
+-- holds, what each call is handed and gives back, what the calls promise of that, and what the host holds afterwards. Each call is handed
+-- the player, record and journal as the calls before left them.
 use Prim.Native.Nat.{ℕ, _<_}
 use mathlib.Core.Path.{_≡_}
 use mathlib.Core.List.{List, [], _∷_, _++_, map}
@@ -25,11 +25,18 @@ use Rattle.player.specs.View.{playerOf}
 use Rattle.player.specs.Promise.{Meets, Starts}
 use Rattle.delivery.specs.World.{Ack}
 
--- an entry on its way to a window: its five numbers as Send wrote them, the term of its batch, and whether it is the batch's last
+-- an entry or a tick on its way to a window: its five numbers as Send wrote them, the term of its batch, and whether it is the batch's last
 pub record Sent : Type 0 where
   pub numbers : List ℕ
   pub term : Term
   pub ends : Bool
+
+-- the first of five numbers is the index, the second the set
+abbrev pub indexOf : List ℕ → ℕ
+indexOf five = getD five 0 0
+
+abbrev pub setOf : List ℕ → ℕ
+setOf five = getD five 1 0
 
 -- one window's end of a run: its record, the line to it, the line back with acks of a term and an index, and the five numbers lent to each
 -- of its Takes that was answered 0
@@ -88,8 +95,9 @@ putOn batch d = withLines (d .line ++ batch) (d .back) d
 
 -- A call: what it was handed beside the player, record and journal, and then what it gave back. Send is lent an output and leaves `out`.
 -- Take is lent the front entry of its window's line, Ack is handed the front ack, Join the window's last index, and Start W and the last
--- index of each window that is not silent: the host has no choice there. It chooses the set of silent windows. A Take says whether it acks
--- an entry that is not the last of its batch. `late-ack` is an Ack offer of an older term. An append is the host's own.
+-- index of each window that is not silent: the host has no choice there. It chooses the batch limit, the spacing and the set of silent
+-- windows. A Take says whether it acks an entry that is not the last of its batch. `late-ack` is an Ack offer of an older term. An append
+-- is the host's own.
 pub data Call : Type 0 where
   main : (index : Index) (gave : Played) → Call
   catch : (w : ℕ) (t : Term) (index : Index) (gave : Played) → Call
@@ -100,7 +108,7 @@ pub data Call : Type 0 where
   late-ack : (w : ℕ) (t : Term) (index : Index) (gave : Played) → Call
   drop : (w : ℕ) (gave : Played) → Call
   join : (w : ℕ) (gave : Played) → Call
-  start : (limit silent : ℕ) (gave : Played) → Call
+  start : (limit spacing silent : ℕ) (gave : Played) → Call
   append : (e : Entry) → Call
 
 -- the report of a window: the last index in its record
@@ -135,10 +143,10 @@ Made h (ack w r) = MadeAck w r (endAt w h .back) h
 Made h (late-ack w t i r) = (isLate w t h ≡ true) × (Meets (h .player) r (ackRule (h .journal) w t (i .0) (playerOf (h .player))))
 Made h (drop w r) = Meets (h .player) r (dropRule (h .journal) w (playerOf (h .player)))
 Made h (join w r) = Meets (h .player) r (joinRule (h .journal) w (reportOf (endAt w h)) (playerOf (h .player)))
-Made h (start limit silent r) =
+Made h (start limit spacing silent r) =
     let reports : List Report = said silent (map reportOf (h .windows)) in
-    Starts (h .player) (countOf (h .journal)) (length (h .windows)) limit reports r
-    (startRule (h .journal) (length (h .windows)) limit reports (playerOf (h .player)))
+    Starts (h .player) (countOf (h .journal)) (length (h .windows)) limit spacing reports r
+    (startRule (h .journal) (length (h .windows)) limit spacing reports (playerOf (h .player)))
 Made h (append e) = countOf (h .journal) < 65535
 
 -- ------------------------------------------------------------------------
@@ -167,9 +175,9 @@ batchIn sent t (i ∷ s ∷ k ∷ c ∷ v ∷ out) =
 abbrev pub batchTo : ℕ → Player → List ℕ → List Sent
 batchTo w p out = batchIn (heldFor w p .sent) (heldFor w p .term) out
 
--- the ack of an entry: the first of its five numbers is its index
+-- the ack of an entry or a tick
 abbrev pub ackFor : Sent → Ack
-ackFor s = record { term = s .term; index = getD (s .numbers) 0 0 }
+ackFor s = record { term = s .term; index = indexOf (s .numbers) }
 
 -- Take removes the front entry. Where it `acks`, and always where the entry is the last of its batch, it puts an ack on the way back. From
 -- an empty line nothing changes
@@ -197,7 +205,7 @@ after (ack w r) h = ackFront w r (endAt w h .back) h
 after (late-ack w t i r) h = withPlayer (r .player) h
 after (drop w r) h = withPlayer (r .player) h
 after (join w r) h = called r (changed w cleared) h
-after (start limit silent r) h = called r clearedAll h
+after (start limit spacing silent r) h = called r clearedAll h
 after (append e) h = record { player = h .player; journal = h .journal ++ numbersOf (e ∷ []); windows = h .windows }
 
 -- ------------------------------------------------------------------------

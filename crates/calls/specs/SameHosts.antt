@@ -59,12 +59,13 @@ sameSides-ends (p ∷ ps) (q ∷ qs) =
 samePlayer : PlayerView → PlayerView → List WindowEnd → List WindowEnd → Bool
 samePlayer p q ds es =
     eqb (p .limit) (q .limit)
-    && (eqb (p .current) (q .current) && (sameList sameWindow (p .windows) (q .windows) && sameList sameEnd ds es))
+    && (eqb (p .spacing) (q .spacing)
+    && (eqb (p .current) (q .current) && (sameList sameWindow (p .windows) (q .windows) && sameList sameEnd ds es)))
 
 pub sameHost-world : {h h′ : Host} {wd wd′ : World} → Shows h wd → Shows h′ wd′ → sameHost h h′ ≡ sameWorld wd wd′
 unfolding sameHost sameWorld samePlayer
 sameHost-world {h} {h′} {wd} {wd′} is is′ =
     ap₂ (λ p q. samePlayer p q (h .windows) (h′ .windows)) (is .player) (is′ .player)
     ∙ ap₂ (λ ds es. samePlayer (playerIn wd) (playerIn wd′) ds es) (is .windows) (is′ .windows)
-    ∙ ap (λ b. eqb (wd .limit) (wd′ .limit) && (eqb (wd .current) (wd′ .current) && b))
+    ∙ ap (λ b. eqb (wd .limit) (wd′ .limit) && (eqb (wd .spacing) (wd′ .spacing) && (eqb (wd .current) (wd′ .current) && b)))
     (sym (sameSides-ends (wd .sides) (wd′ .sides)))

@@ -2,12 +2,16 @@
 use Prim.Native.Nat.{ℕ, suc, _+_, _*_, _≤_, _<_}
 use mathlib.Core.Path.{_≡_}
 use mathlib.Core.List.{List, [], _∷_, map}
-use mathlib.Core.Bool.{Bool, true, false, cond, _&&_}
-use lib.ListN.{take}
+use mathlib.Core.Bool.{Bool, true, false, cond, _&&_, _||_}
+use lib.ListN.{length, take}
 use lib.Dec.{eqb}
-use Rattle.journal.specs.Entry.{countOf, entriesOf, fiveOf}
+use Rattle.journal.specs.Entry.{countOf, entriesOf, hasWindow, fiveOf}
 use Rattle.journal.specs.Own.{own}
-use Rattle.record.specs.Record.{newRecord, takeAll}
+use Rattle.lists.specs.All.{all}
+use Rattle.lists.specs.Elem.{lastOr}
+use Rattle.lists.specs.Keep.{keep}
+use Rattle.record.specs.declared.Record.{Record}
+use Rattle.record.specs.Record.{newRecord, takeNumbers, takeAll}
 use Rattle.rules.specs.View.{PlayerView}
 use Rattle.rules.specs.Window.{Report}
 use Rattle.rules.specs.Rules.{speaks, startRule}
@@ -18,7 +22,7 @@ use Rattle.player.specs.View.{playerOf}
 use Rattle.player.specs.Promise.{Starts}
 use Rattle.delivery.specs.Statement.{newReports}
 use Rattle.delivery.specs.Same.{sameBool, sameList, sameWindow, sameRecord, sameAck}
-use Rattle.calls.specs.Host.{Sent, WindowEnd, Host, endAt, Call, main, catch, written, send, ack, late-ack, drop, join, start, append, Made, isDone, after, MadeAll, hostAfter, opened}
+use Rattle.calls.specs.Host.{Sent, indexOf, setOf, WindowEnd, Host, endAt, Call, main, catch, written, send, ack, late-ack, drop, join, start, append, Made, isDone, after, MadeAll, hostAfter, opened}
 use Rattle.calls.specs.Host as H
 
 -- ------------------------------------------------------------------------
@@ -37,8 +41,9 @@ sameHost a b =
     let p : PlayerView = playerOf (a .player) in
     let q : PlayerView = playerOf (b .player) in
     eqb (p .limit) (q .limit)
+    && (eqb (p .spacing) (q .spacing)
     && (eqb (p .current) (q .current)
-    && (sameList sameWindow (p .windows) (q .windows) && sameList sameEnd (a .windows) (b .windows)))
+    && (sameList sameWindow (p .windows) (q .windows) && sameList sameEnd (a .windows) (b .windows))))
 
 -- ------------------------------------------------------------------------
 -- Counts and conditions of a list of calls
@@ -54,7 +59,7 @@ begins (ack w r) = false
 begins (late-ack w t i r) = false
 begins (drop w r) = isDone r
 begins (join w r) = isDone r
-begins (start limit silent r) = isDone r
+begins (start limit spacing silent r) = isDone r
 begins (append e) = true
 
 -- The number of calls since the last fault or append that changed something: the player's state, a record or a line differs after it.
@@ -74,7 +79,7 @@ joinedBy w (ack v r) b = b
 joinedBy w (late-ack v t i r) b = b
 joinedBy w (drop v r) b = cond (isDone r) (cond (eqb v w) false b) b
 joinedBy w (join v r) b = cond (isDone r) (cond (eqb v w) true b) b
-joinedBy w (start limit silent r) b = cond (isDone r) (speaks silent w) b
+joinedBy w (start limit spacing silent r) b = cond (isDone r) (speaks silent w) b
 joinedBy w (append e) b = b
 
 -- whether window w is joined after the list, where it was or was not before
@@ -93,7 +98,7 @@ isWork (ack w r) = true
 isWork (late-ack w t i r) = true
 isWork (drop w r) = false
 isWork (join w r) = false
-isWork (start limit silent r) = false
+isWork (start limit spacing silent r) = false
 isWork (append e) = false
 
 -- "None can": no Main, Catch, Send, Written, Take or Ack that the list might go on with would change anything, whatever it gives that meets
@@ -102,36 +107,62 @@ abbrev pub NoneCan : Host → Type 0
 NoneCan h = (c : Call) → isWork c ≡ true → Made h c → sameHost h (after c h) ≡ true
 
 -- ------------------------------------------------------------------------
+-- What a window has taken, five numbers each
+
+-- one of window w's own: its set has the window's bit
+abbrev pub isOwnFive : ℕ → List ℕ → Bool
+isOwnFive w five = hasWindow w (setOf five)
+
+-- the window's own, in order
+abbrev pub ownFives : ℕ → List (List ℕ) → List (List ℕ)
+ownFives w fives = keep (isOwnFive w) fives
+
+-- Document 02, W5: an index, and then set 0, kind NOTE, race 0 and value 0
+abbrev pub isTickFive : List ℕ → Bool
+isTickFive five = sameList eqb five (indexOf five ∷ 0 ∷ 4 ∷ 0 ∷ 0 ∷ [])
+
+-- what Take makes of a record lent these one after another
+unfoldable pub takeFives : List (List ℕ) → Record → Record
+takeFives [] r = r
+takeFives (five ∷ fives) r = takeFives fives (takeNumbers five r .record′)
+
+-- ------------------------------------------------------------------------
 -- The theorem
 
--- What it has taken is the list of entries lent to its Takes that were answered 0. If these are k, the list equals the first k of its own
--- entries, each as five numbers, and the record equals what Take makes of a new record lent those k from the journal, one after another.
+-- What it has taken is the list of entries lent to its Takes that were answered 0. Some are its own, the others ticks. Read without ticks,
+-- if these are k, the list equals the first k of its own entries, each as five numbers. The record equals what Take makes of a new record
+-- lent the whole list, ticks and all, one after another: its races are what those k from the journal give, its count is the number of all
+-- that was taken, and its last the index of the last of it.
 pub record Leading (ns : List ℕ) (w : ℕ) (d : WindowEnd) : Type 0 where
   pub k : ℕ
-  pub list : d .taken ≡ map fiveOf (take k (own (entriesOf ns) w))
-  pub folded : d .record′ ≡ takeAll (take k (own (entriesOf ns) w)) newRecord
+  pub list : ownFives w (d .taken) ≡ map fiveOf (take k (own (entriesOf ns) w))
+  pub others : all (λ five. isOwnFive w five || isTickFive five) (d .taken) ≡ true
+  pub folded : d .record′ ≡ takeFives (d .taken) newRecord
+  pub races : d .record′ .races ≡ takeAll (take k (own (entriesOf ns) w)) newRecord .races
+  pub count : d .record′ .count ≡ length (d .taken)
+  pub last : d .record′ .last .0 ≡ lastOr 0 (map indexOf (d .taken))
 
 -- the three results, for W windows, the set of those silent at the first Start, the host after it, and a list of calls from there
 pub record Delivers (count silent : ℕ) (h : Host) (calls : List Call) : Type 0 where
-  -- every window has taken a leading part of its own entries, once each and in order
+  -- every window has taken a leading part of its own entries, once each and in order, and ticks among them
   pub leading : (w : ℕ) → w < count → Leading (hostAfter h calls .journal) w (endAt w (hostAfter h calls))
   -- with all windows joined, at most L × (1 + 5 × W) calls since the last fault or append changed anything
   pub bound : ((w : ℕ) → w < count → joinedAfter w (speaks silent w) calls ≡ true) →
       changes 0 h calls ≤ countOf (hostAfter h calls .journal) * (1 + 5 * count)
   -- with all windows joined, when none can, every window has taken all of its own entries
   pub finish : ((w : ℕ) → w < count → joinedAfter w (speaks silent w) calls ≡ true) → NoneCan (hostAfter h calls) →
-      (w : ℕ) → w < count → endAt w (hostAfter h calls) .taken ≡ map fiveOf (own (entriesOf (hostAfter h calls .journal)) w)
+      (w : ℕ) → w < count → ownFives w (endAt w (hostAfter h calls) .taken) ≡ map fiveOf (own (entriesOf (hostAfter h calls .journal)) w)
 
 -- what the first Start gives meets its promise: it is handed the reports of new windows, and whatever player there was before
-abbrev pub FirstStart : Player → List ℕ → (count limit silent : ℕ) → Played → Type 0
-FirstStart before ns count limit silent r =
+abbrev pub FirstStart : Player → List ℕ → (count limit spacing silent : ℕ) → Played → Type 0
+FirstStart before ns count limit spacing silent r =
     let reports : List Report = newReports silent count in
-    Starts before (countOf ns) count limit reports r (startRule ns count limit reports (playerOf before))
+    Starts before (countOf ns) count limit spacing reports r (startRule ns count limit spacing reports (playerOf before))
 
--- Demand 3 of the calls. The list starts from new windows, empty lines, any journal and a Start answered 0. W, the batch limit, the silent
--- windows and the journal are any that this Start takes, and the calls are any that meet their promises.
+-- Demand 3 of the calls. The list starts from new windows, empty lines, any journal and a Start answered 0. W, the batch limit, the
+-- spacing, the silent windows and the journal are any that this Start takes, and the calls are any that meet their promises.
 abbrev pub Demand3Calls : Type 0
 Demand3Calls =
-    (before : Player) (ns : List ℕ) (count limit silent : ℕ) (r : Played) →
-    FirstStart before ns count limit silent r → numberOf (r .answer) ≡ 0 →
+    (before : Player) (ns : List ℕ) (count limit spacing silent : ℕ) (r : Played) →
+    FirstStart before ns count limit spacing silent r → numberOf (r .answer) ≡ 0 →
     (calls : List Call) → MadeAll (opened (r .player) ns count) calls → Delivers count silent (opened (r .player) ns count) calls

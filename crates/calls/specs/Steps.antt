@@ -35,7 +35,7 @@ callStep (ack w r) = W.ack w
 callStep (late-ack w t i r) = W.late-ack w t (i .0)
 callStep (drop w r) = W.drop w
 callStep (join w r) = W.join w
-callStep (start limit silent r) = W.start limit silent
+callStep (start limit spacing silent r) = W.start limit spacing silent
 callStep (append e) = W.append e
 
 -- after a call the host shows the world after its step, and the count of changes begins anew at both or at neither

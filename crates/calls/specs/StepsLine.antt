@@ -139,7 +139,7 @@ module _ {h : Host} {wd : World} (is : Shows h wd) where
   follows-send reached w lent r out (made, wrote) =
       let o : Outcome = sendRule (numbersIn wd) w (length lent) (playerIn wd) in
       let k : Gives r o = shows-meets is (λ ns p. sendRule ns w (length lent) p) made in
-      let batch : List W.Sent = onLine (wd .journal) (sideAt w wd .view .term) (batchAt w (playerIn wd)) in
+      let batch : List W.Sent = onLine (wd .journal) w (sideAt w wd .view .term) (batchAt w (playerIn wd)) in
       let read : o .answer ≡ 0 → batchTo w (r .player) out ≡ map inNumbers batch
       = λ z.
       ap₂ (λ q out. batchIn (windowAt w q .sent) (windowAt w q .term) out) (k .next)
@@ -159,46 +159,44 @@ module _ {h : Host} {wd : World} (is : Shows h wd) where
 -- ------------------------------------------------------------------------
 -- Start
 
--- every line of a world emptied
-abbrev sidesCleared : World → World
-sidesCleared wd = record { journal = wd .journal; limit = wd .limit; current = wd .current; sides = map W.cleared (wd .sides) }
-
-shows-cleared : {h : Host} {wd : World} → Shows h wd → Shows (clearedAll h) (sidesCleared wd)
+shows-cleared : {h : Host} {wd : World} → Shows h wd → Shows (clearedAll h) (W.clearedAll wd)
 shows-cleared {h} {wd} is = record {
   player =
       is .player
-      ∙ ap (λ vs. record { limit = wd .limit; current = wd .current; windows = vs }) (sym (map-map (λ p. p .view) W.cleared (wd .sides)));
+      ∙ ap (λ vs. record { limit = wd .limit; spacing = wd .spacing; current = wd .current; windows = vs })
+      (sym (map-map (λ p. p .view) W.cleared (wd .sides)));
   journal = is .journal;
   windows = ap (map cleared) (is .windows) ∙ map-map cleared endOf (wd .sides) ∙ sym (map-map endOf W.cleared (wd .sides));
 }
 
 module _ {h : Host} {wd : World} (is : Shows h wd) where
-  start-count : (limit silent : ℕ) →
-      length (startRule (numbersIn wd) (length (wd .sides)) limit (said silent (reportsIn wd)) (playerIn wd) .next .windows)
+  start-count : (limit spacing silent : ℕ) →
+      length (startRule (numbersIn wd) (length (wd .sides)) limit spacing (said silent (reportsIn wd)) (playerIn wd) .next .windows)
       ≡ length (wd .sides)
-  start-count limit silent =
+  start-count limit spacing silent =
       let rs : List Report = said silent (reportsIn wd) in
-      let o : Outcome = startRule (numbersIn wd) (length (wd .sides)) limit rs (playerIn wd) in
+      let o : Outcome = startRule (numbersIn wd) (length (wd .sides)) limit spacing rs (playerIn wd) in
       ⊎-elim
       (λ (e : o .answer ≡ 0).
-      startRule-done (numbersIn wd) (length (wd .sides)) limit rs (playerIn wd) e .windows)
+      startRule-done (numbersIn wd) (length (wd .sides)) limit spacing rs (playerIn wd) e .windows)
       (λ (n : o .answer ≡ 0 → ⊥).
-      ap (λ q. length (q .windows)) (startRule-refuses (numbersIn wd) (length (wd .sides)) limit rs (playerIn wd) n)
+      ap (λ q. length (q .windows)) (startRule-refuses (numbersIn wd) (length (wd .sides)) limit spacing rs (playerIn wd) n)
       ∙ windows-in wd)
       (eq-or-ne (o .answer) 0)
 
-  pub follows-start : (limit silent : ℕ) (r : Played) → Made h (start limit silent r) → Follows (start limit silent r) h wd
+  pub follows-start : (limit spacing silent : ℕ) (r : Played) → Made h (start limit spacing silent r) →
+      Follows (start limit spacing silent r) h wd
   unfolding step after
-  follows-start limit silent r made =
+  follows-start limit spacing silent r made =
       let n : ℕ = length (wd .sides) in
       let rs : List Report = said silent (reportsIn wd) in
       let reports : map reportOf (h .windows) ≡ reportsIn wd = ap (map reportOf) (is .windows) ∙ map-map reportOf endOf (wd .sides) in
-      let k = shows-rule is (λ ns p. startRule ns n limit rs p)
-      (subst₂ (λ n rs. Gives r (startRule (h .journal) n limit (said silent rs) (playerOf (h .player)))) (shows-count is) reports
+      let k = shows-rule is (λ ns p. startRule ns n limit spacing rs p)
+      (subst₂ (λ n rs. Gives r (startRule (h .journal) n limit spacing (said silent rs) (playerOf (h .player)))) (shows-count is) reports
       (record { answer = made .answer; next = made .next })) in
       record {
         shows =
-            shows-called is r (startRule (numbersIn wd) n limit rs (playerIn wd)) clearedAll sidesCleared k (start-count limit silent)
-            (λ z. shows-cleared);
+            shows-called is r (startRule (numbersIn wd) n limit spacing rs (playerIn wd)) clearedAll W.clearedAll k
+            (start-count limit spacing silent) (λ z. shows-cleared);
         anew = answer-same is _ k;
       }

@@ -95,7 +95,7 @@ work-lowers wd wd′ r (mains i is done m) =
     let k : w < length (wd .sides) = omega (arith, m .count) in
     subst⁻¹ (λ n. n ≤ sideWork (length (wd .journal)) (wd .current) (sideAt w wd))
     (λ i. sideWork (length (m .journal i)) (m .current i) (m .each w k i))
-    (main-work (wd .journal) (length (wd .journal)) (wd .current) w (sideAt w wd) (r .each w k) (m .below) refl) in
+    (main-work (wd .journal) (length (wd .journal)) (wd .current) w (wd .spacing) (sideAt w wd) (r .each w k) (m .below) refl) in
     inr
     (omega (
       arith,
@@ -170,7 +170,7 @@ begins-work (ack w) reply e = refl
 begins-work (late-ack w t i) reply e = refl
 begins-work (drop w) reply e = absurd (false≢true e)
 begins-work (join w) reply e = absurd (false≢true e)
-begins-work (start b silent) reply e = absurd (false≢true e)
+begins-work (start b spacing silent) reply e = absurd (false≢true e)
 begins-work (append x) reply e = absurd (false≢true e)
 
 -- A result to be read: where no work is left, none can.

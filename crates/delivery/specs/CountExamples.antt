@@ -1,8 +1,8 @@
--- The counts of W4, computed on four runs, one for each place where they begin: a Start, an append, a Join, and the first Start; and a run
--- after which all windows are joined and none can.
+-- The counts of W4, computed on four runs, one for each place where they begin: a Start, an append, a Join, and the first Start; on a run
+-- with ticks; and a run after which all windows are joined and none can.
 use Prim.Native.Nat.{ℕ}
 use mathlib.Core.Path.{_≡_, refl}
-use mathlib.Core.List.{List, [], _∷_}
+use mathlib.Core.List.{List, [], _∷_, _++_}
 use mathlib.Core.Bool.{Bool, true, false, _&&_}
 use Rattle.lists.specs.Answer.{Answer, answer}
 use Rattle.journal.specs.declared.Entry.{Entry}
@@ -12,7 +12,8 @@ use Rattle.planner.specs.Plan.{figures, planRule}
 use Rattle.delivery.specs.World.{World, numbersIn, Step, main, catch, written, send, take, ack, drop, join, start, append, run}
 use Rattle.delivery.specs.Statement.{joinedAfter, NoneCan, firstStart}
 use Rattle.delivery.specs.Counts.{isTakeOf, isMain, doneSince, leftBy, lastAt}
-use Rattle.delivery.specs.Examples.{computed, nobody, openedWith, term, room, afternoon, oneEntry, fiveMoves}
+use Rattle.delivery.specs.Examples.{computed, nobody, wide, openedWith, term, room, afternoon, oneEntry, fiveMoves}
+use Rattle.delivery.specs.TickExamples.{openedEvery, busy, busySteps}
 use Rattle.delivery.specs.Invariant.{Reached}
 use Rattle.delivery.specs.Reach.{reached-run}
 use Rattle.delivery.specs.Bound.{total, workLeft, none-left}
@@ -56,7 +57,7 @@ evening = entry4 3 1 1 50400 ∷ entry4 1 2 1 350 ∷ entry4 2 3 1 0 ∷ entry4 
 -- is refused are not counted, nor is what was taken and read before the Start.
 abbrev pub startedSteps : List Step
 startedSteps =
-    main 1 ∷ main 2 ∷ send 0 room ∷ take 0 false ∷ send 1 room ∷ take 1 false ∷ start 2 0
+    main 1 ∷ main 2 ∷ send 0 room ∷ take 0 false ∷ send 1 room ∷ take 1 false ∷ start 2 wide 0
     ∷ main 2 ∷ main 3 ∷ main 4 ∷ main 5 ∷ send 0 room ∷ written 0 (term 1) ∷ take 0 false ∷ take 0 false ∷ ack 0
     ∷ send 1 room ∷ written 1 (term 1) ∷ take 1 false ∷ take 1 false ∷ ack 1 ∷ []
 
@@ -129,6 +130,24 @@ pub since-first : tally (openedWith evening 2) quietSteps ≡ record {
 unfolding computed counting
 since-first = refl
 
+-- Spacing 2 and no entry for window 0: it takes three ticks, which are not counted.
+abbrev pub tickedSteps : List Step
+tickedSteps =
+    busySteps
+    ++ (main 6 ∷ send 1 room ∷ written 1 (term 1) ∷ take 1 false ∷ ack 1 ∷ send 0 room ∷ written 0 (term 1) ∷ take 0 false ∷ ack 0 ∷ [])
+
+pub ticks-left-out : tally (openedEvery 2 busy) tickedSteps ≡ record {
+  takes0 = 0;
+  plan0 = answer 0 (0 ∷ 0 ∷ 0 ∷ []);
+  takes1 = 6;
+  plan1 = answer 0 (6 ∷ 3 ∷ 10 ∷ []);
+  mains = 6;
+  current = 0;
+  joined = true;
+}
+unfolding computed counting
+ticks-left-out = refl
+
 -- The premise of the counts, and of demand 3's finish, is met by a run: both windows are joined, and none can.
 pub record PremiseMet : Type 0 where
   pub joined0 : joinedAfter 0 true oneEntry fiveMoves ≡ true
@@ -139,12 +158,12 @@ none-to-do : workLeft (run oneEntry fiveMoves) ≡ 0
 unfolding computed workLeft total
 none-to-do = refl
 
-one-started : firstStart nobody (entry4 3 1 1 50400 ∷ []) 2 2 0 .answer ≡ 0
+one-started : firstStart nobody (entry4 3 1 1 50400 ∷ []) 2 2 wide 0 .answer ≡ 0
 unfolding computed
 one-started = refl
 
 pub premise-met : PremiseMet
 unfolding computed counting
 premise-met =
-    let reached : Reached oneEntry = opened-reached nobody (entry4 3 1 1 50400 ∷ []) 2 2 0 one-started in
+    let reached : Reached oneEntry = opened-reached nobody (entry4 3 1 1 50400 ∷ []) 2 2 wide 0 one-started in
     record { joined0 = refl; joined1 = refl; none = none-left (run oneEntry fiveMoves) (reached-run oneEntry fiveMoves reached) none-to-do }

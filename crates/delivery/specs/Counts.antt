@@ -1,5 +1,5 @@
--- Document 02, W4: how many Takes and Mains are answered 0 since the last fault or append, stated exactly. The file imports definitions
--- alone. The paper's words stand beside each part.
+-- Document 02, W4, its Takes read without ticks (W5): how many Takes and Mains are answered 0 since the last fault or append, stated
+-- exactly. The file imports definitions alone. The paper's words stand beside each part.
 use Prim.Native.Nat.{ℕ, suc, _-_, _<_}
 use mathlib.Core.Path.{_≡_}
 use mathlib.Core.List.{List, [], _∷_}
@@ -7,46 +7,52 @@ use mathlib.Core.Bool.{Bool, true, false, cond, _&&_}
 use lib.ListN.{length}
 use lib.Dec.{eqb}
 use Rattle.journal.specs.declared.Entry.{Entry}
+use Rattle.journal.specs.Own.{isOwn}
 use Rattle.rules.specs.View.{PlayerView}
 use Rattle.rules.specs.Rules.{speaks}
 use Rattle.planner.specs.Plan.{Figures, figures, planned, planRule}
-use Rattle.delivery.specs.World.{World, sideAt, numbersIn, Step, main, catch, written, send, take, ack, late-ack, drop, join, start, append, Stepped, step, run, opened}
+use Rattle.delivery.specs.World.{Sent, World, sideAt, numbersIn, Step, main, catch, written, send, take, ack, late-ack, drop, join, start, append, Stepped, step, run, opened}
 use Rattle.delivery.specs.Statement.{isDone, begins, joinedAfter, NoneCan, firstStart}
 
--- a Take of window w
-abbrev pub isTakeOf : ℕ → Step → Bool
-isTakeOf w (main i) = false
-isTakeOf w (catch v t i) = false
-isTakeOf w (written v t) = false
-isTakeOf w (send v out) = false
-isTakeOf w (take v acks) = eqb v w
-isTakeOf w (ack v) = false
-isTakeOf w (late-ack v t i) = false
-isTakeOf w (drop v) = false
-isTakeOf w (join v) = false
-isTakeOf w (start b silent) = false
-isTakeOf w (append e) = false
+-- one of window w's own at the front of its line, and no tick
+abbrev pub ownFront : ℕ → List Sent → Bool
+ownFront w [] = false
+ownFront w (s ∷ rest) = isOwn w (s .placed)
+
+-- a Take of window w, of one of its own; a step is of a kind in the world in which it is made
+abbrev pub isTakeOf : ℕ → World → Step → Bool
+isTakeOf w wd (main i) = false
+isTakeOf w wd (catch v t i) = false
+isTakeOf w wd (written v t) = false
+isTakeOf w wd (send v out) = false
+isTakeOf w wd (take v acks) = eqb v w && ownFront w (sideAt v wd .line)
+isTakeOf w wd (ack v) = false
+isTakeOf w wd (late-ack v t i) = false
+isTakeOf w wd (drop v) = false
+isTakeOf w wd (join v) = false
+isTakeOf w wd (start b e silent) = false
+isTakeOf w wd (append e) = false
 
 -- a Main
-abbrev pub isMain : Step → Bool
-isMain (main i) = true
-isMain (catch v t i) = false
-isMain (written v t) = false
-isMain (send v out) = false
-isMain (take v acks) = false
-isMain (ack v) = false
-isMain (late-ack v t i) = false
-isMain (drop v) = false
-isMain (join v) = false
-isMain (start b silent) = false
-isMain (append e) = false
+abbrev pub isMain : World → Step → Bool
+isMain wd (main i) = true
+isMain wd (catch v t i) = false
+isMain wd (written v t) = false
+isMain wd (send v out) = false
+isMain wd (take v acks) = false
+isMain wd (ack v) = false
+isMain wd (late-ack v t i) = false
+isMain wd (drop v) = false
+isMain wd (join v) = false
+isMain wd (start b e silent) = false
+isMain wd (append e) = false
 
 -- The number of steps of a kind answered 0 since the last fault or append; n of them are counted before the list.
-unfoldable pub doneSince : (Step → Bool) → ℕ → World → List Step → ℕ
+unfoldable pub doneSince : (World → Step → Bool) → ℕ → World → List Step → ℕ
 doneSince kind n wd [] = n
 doneSince kind n wd (s ∷ ss) =
     let r : Stepped = step s wd in
-    doneSince kind (cond (begins s (r .reply)) 0 (cond (kind s && isDone (r .reply)) (suc n) n)) (r .world) ss
+    doneSince kind (cond (begins s (r .reply)) 0 (cond (kind wd s && isDone (r .reply)) (suc n) n)) (r .world) ss
 
 -- The world as the last fault or append left it; where the list has none, the one given, which is that after the first Start.
 unfoldable pub leftBy : World → World → List Step → World
@@ -69,7 +75,8 @@ pub record Counts (count silent : ℕ) (wd : World) (steps : List Step) : Type 0
       let left : World = leftBy wd wd steps in
       let now : World = run wd steps in
       planRule (numbersIn now) w (lastAt w left) (now .limit) ≡ planned (figuresFor w left now)
-  -- with all windows joined, when none can, the Takes of each window answered 0 since the last fault or append are its first figure
+  -- with all windows joined, when none can, the Takes of each window answered 0 since the last fault or append, ticks left out, are its
+  -- first figure
   pub takes : ((w : ℕ) → w < count → joinedAfter w (speaks silent w) wd steps ≡ true) → NoneCan (run wd steps) →
       (w : ℕ) → w < count → doneSince (isTakeOf w) 0 wd steps ≡ figuresFor w (leftBy wd wd steps) (run wd steps) .entries
   -- with all windows joined, when none can, the Mains answered 0 since then are L minus `current` as it was left
@@ -79,5 +86,6 @@ pub record Counts (count silent : ℕ) (wd : World) (steps : List Step) : Type 0
 -- W4's counts, of whatever demand 3 speaks of
 abbrev pub ExactCounts : Type 0
 ExactCounts =
-    (before : PlayerView) (j : List Entry) (count limit silent : ℕ) (steps : List Step) →
-    firstStart before j count limit silent .answer ≡ 0 → Counts count silent (opened j (firstStart before j count limit silent)) steps
+    (before : PlayerView) (j : List Entry) (count limit spacing silent : ℕ) (steps : List Step) →
+    firstStart before j count limit spacing silent .answer ≡ 0 →
+    Counts count silent (opened j (firstStart before j count limit spacing silent)) steps

@@ -12,7 +12,7 @@ use Rattle.rules.specs.Shape.{shape}
 use Rattle.rules.specs.Window.{isSuspended, wanted, mainAt, fetched, batchOf, freed, acknowledged, dropped, joined, startedBy}
 use Rattle.rules.specs.Rules.{speaks, saidBy}
 use Rattle.rules.specs.Offers.{Caught, SentOut, WrittenOff, AckTaken}
-use Rattle.delivery.specs.World.{Sent, Ack, Side, World, sideAt, numbersIn, playerIn, withView, withLines, withSide, takeFront, cleared, Step, main, catch, send, take, ack, drop, join, start, append, Reply, answered, step}
+use Rattle.delivery.specs.World.{Sent, Ack, Side, World, sideAt, numbersIn, playerIn, withView, withLines, withJournal, withSide, takeFront, cleared, Step, main, catch, send, take, ack, drop, join, start, append, Reply, answered, step}
 use Rattle.delivery.specs.World as W
 use Rattle.delivery.specs.Invariant.{lastOf}
 use Rattle.delivery.specs.Worlds.{withSide-count}
@@ -23,13 +23,13 @@ use Rattle.delivery.specs.Statement.{isDone, begins}
 pub data Worked (j : List Entry) (limit w : ℕ) (s : Step) (reply : Reply) (p p′ : Side) : Type 0 where
   caught : (t : Term) (i : ℕ) → s ≡ catch w t i → (c : Caught j w t i (p .view)) →
       p′ ≡ withView (fetched (wanted j w i (p .view)) i (c .upto) (p .view)) p → Worked j limit w s reply p p′
-  sent : (out : List ℕ) → s ≡ send w out → SentOut limit (length out) (p .view) → p′ ≡ launchedSide j (batchOf limit (p .view)) p →
+  sent : (out : List ℕ) → s ≡ send w out → SentOut limit (length out) (p .view) → p′ ≡ launchedSide j w (batchOf limit (p .view)) p →
       Worked j limit w s reply p p′
   written : (t : Term) → s ≡ W.written w t → WrittenOff t (p .view) → p′ ≡ withView (freed (p .view)) p → Worked j limit w s reply p p′
   took : (acks : Bool) → s ≡ take w acks → (x : Sent) (rest : List Sent) → p .line ≡ x ∷ rest →
       reply ≡ answered (takeNumbers (fiveOf (x .placed)) (p .record′) .number) → p′ ≡ takeFront acks x rest p →
       Worked j limit w s reply p p′
-  acked : s ≡ ack w → (a : Ack) (rest : List Ack) → p .back ≡ a ∷ rest → AckTaken j w (a .term) (a .index) (p .view) →
+  acked : s ≡ ack w → (a : Ack) (rest : List Ack) → p .back ≡ a ∷ rest → AckTaken (a .term) (a .index) (p .view) →
       p′ ≡ withLines (p .line) rest (withView (acknowledged (a .index) (p .view)) p) → Worked j limit w s reply p p′
 
 -- Main answered 0: the next index is read, and each window does as its own rule says
@@ -39,7 +39,7 @@ pub record Mained (wd wd′ : World) : Type 0 where
   pub current : wd′ .current ≡ suc (wd .current)
   pub count : length (wd′ .sides) ≡ length (wd .sides)
   pub each : (w : ℕ) → w < length (wd .sides) →
-      sideAt w wd′ ≡ withView (mainAt (wd .journal) w (suc (wd .current)) (sideAt w wd .view)) (sideAt w wd)
+      sideAt w wd′ ≡ withView (mainAt (wd .journal) w (wd .spacing) (suc (wd .current)) (sideAt w wd .view)) (sideAt w wd)
   pub shaped : shape (numbersIn wd′) (playerIn wd′) ≡ true
 
 -- a step s with its reply that is neither a fault nor an append: it is not answered 0 and does nothing, or is a Main, or a window's work
@@ -75,9 +75,9 @@ pub data Facts (s : Step) (wd : World) : Type 0 where
   joining : (w : ℕ) → s ≡ join w → isDone (step s wd .reply) ≡ true → w < length (wd .sides) → isSuspended (sideAt w wd .view .condition) ≡ true →
       step s wd .world ≡ withSide w (cleared (withView (joined (wd .current) (lastOf (sideAt w wd)) (sideAt w wd .view)) (sideAt w wd))) wd →
       shape (numbersIn (step s wd .world)) (playerIn (step s wd .world)) ≡ true → Facts s wd
-  starting : (b silent : ℕ) → s ≡ start b silent → isDone (step s wd .reply) ≡ true → Restarted silent wd (step s wd .world) → Facts s wd
+  starting : (b e silent : ℕ) → s ≡ start b e silent → isDone (step s wd .reply) ≡ true → Restarted silent wd (step s wd .world) → Facts s wd
   appending : (e : Entry) → s ≡ append e → isDone (step s wd .reply) ≡ true → length (wd .journal) < 65535 →
-      step s wd .world ≡ record { journal = wd .journal ++ (e ∷ []); limit = wd .limit; current = wd .current; sides = wd .sides } → Facts s wd
+      step s wd .world ≡ withJournal (wd .journal ++ (e ∷ [])) wd → Facts s wd
 
 -- ------------------------------------------------------------------------
 -- what work leaves as it was: the journal, and the number of windows

@@ -1,22 +1,22 @@
--- W4's counts hold. What is taken, and what is read, goes up by one at each step that is counted and at no other; and what a window has
--- taken and what it has still to take are together its own entries.
+-- W4's counts hold. What is taken of a window's own, and what is read, goes up by one at each step that is counted and at no other; and
+-- what a window has taken of its own and what it has still to take are together its own entries.
 use Prim.Native.Nat.{ℕ, suc, _+_, _<_}
 use mathlib.Core.Path.{_≡_, refl, sym, ap, subst, _∙_}
 use mathlib.Core.Logic.{⊎-elim}
 use mathlib.Core.List.{List, [], _∷_, _++_}
-use mathlib.Core.Bool.{Bool, true, false, cond, _&&_, and-false}
+use mathlib.Core.Bool.{Bool, true, false, cond, _&&_, and-true, and-false}
 use native.Mathlib.Omega.{arith}
 use native.Mathlib.Nat.{zero-add}
-use native.Mathlib.Numerals.{add-one}
 use borrow.Author.Tests.{eq-eqb, ne-eqb, le-leb}
 use lib.ListN.{length, length-map, length-append}
 use lib.Dec.{eqb}
 use Rattle.journal.specs.declared.Entry.{Entry}
 use Rattle.journal.specs.Entry.{Placed, placedAt, fiveOf}
 use Rattle.journal.specs.Due.{due, due-split}
-use Rattle.journal.specs.Own.{own, own-due}
+use Rattle.journal.specs.Own.{own, isOwn, ownOf, own-due}
 use Rattle.lists.specs.Cases.{and-intro}
 use Rattle.lists.specs.Set.{getD-set-each}
+use Rattle.lists.specs.Keep.{keep, keep-append}
 use Rattle.record.specs.Record.{takeNumbers}
 use Rattle.rules.specs.Offers.{shaped}
 use Rattle.planner.specs.Plan.{toTake, figures, planned, planRule}
@@ -27,6 +27,7 @@ use Rattle.delivery.specs.Counts.{isTakeOf, isMain, doneSince, leftBy, l
 use Rattle.delivery.specs.Invariant.{Taken, Reached}
 use Rattle.delivery.specs.Worlds.{entries-in, count-in, windows-in}
 use Rattle.delivery.specs.Effects.{Worked, caught, sent, written, took, acked, Work, stays, mains, works, work-journal}
+use Rattle.delivery.specs.KeepLine.{taken-own}
 use Rattle.delivery.specs.Reach.{reached-step, begun-or-working, reached-run}
 use Rattle.delivery.specs.Joined.{step-count, run-count}
 use Rattle.delivery.specs.Finish.{all-read}
@@ -41,21 +42,21 @@ oneMore b n = cond b (suc n) n
 
 -- A number of a world that goes up by one at the steps of a kind answered 0, and stays at the others that are neither a fault nor an
 -- append: so many such steps, and what it was when the last fault or append was over, are what it is.
-module _ (kind : Step → Bool) (f : World → ℕ) (count : ℕ)
+module _ (kind : World → Step → Bool) (f : World → ℕ) (count : ℕ)
     (law : (s : Step) (reply : Reply) (wd wd′ : World) → length (wd .sides) ≡ count → Work s reply wd wd′ →
-    f wd′ ≡ oneMore (kind s && isDone reply) (f wd)) where
+    f wd′ ≡ oneMore (kind wd s && isDone reply) (f wd)) where
   module _ (n : ℕ) (left wd : World) (s : Step) (so-far : n + f left ≡ f wd) where
     goes-on : (b : Bool) → f (step s wd .world) ≡ oneMore b (f wd) → oneMore b n + f left ≡ f (step s wd .world)
     goes-on true e = omega arith
     goes-on false e = omega arith
 
     counted-step : Reached wd → length (wd .sides) ≡ count →
-        cond (begins s (step s wd .reply)) 0 (oneMore (kind s && isDone (step s wd .reply)) n)
+        cond (begins s (step s wd .reply)) 0 (oneMore (kind wd s && isDone (step s wd .reply)) n)
         + f (cond (begins s (step s wd .reply)) (step s wd .world) left)
         ≡ f (step s wd .world)
     counted-step r c =
         ⊎-elim (λ begun. rw begun (zero-add (f (step s wd .world))))
-        (λ k. rw (k .0) (goes-on (kind s && isDone (step s wd .reply)) (law s _ wd _ c (k .1))))
+        (λ k. rw (k .0) (goes-on (kind wd s && isDone (step s wd .reply)) (law s _ wd _ c (k .1))))
         (begun-or-working wd s r)
 
   counted : (n : ℕ) (left wd : World) (ss : List Step) → Reached wd → length (wd .sides) ≡ count → n + f left ≡ f wd →
@@ -69,61 +70,75 @@ module _ (kind : Step → Bool) (f : World → ℕ) (count : ℕ)
 -- Mains
 
 -- a window's work is no Main
-worked-main : {j : List Entry} {limit w : ℕ} {s : Step} {reply : Reply} {p p′ : Side} → Worked j limit w s reply p p′ → isMain s ≡ false
-worked-main (caught t i is k e) = ap isMain is
-worked-main (sent out is k e) = ap isMain is
-worked-main (written t is off e) = ap isMain is
-worked-main (took acks is x rest front replied e) = ap isMain is
-worked-main (acked is a rest front taken e) = ap isMain is
+worked-main : {j : List Entry} {limit w : ℕ} {s : Step} {reply : Reply} {p p′ : Side} (wd : World) → Worked j limit w s reply p p′ →
+    isMain wd s ≡ false
+worked-main wd (caught t i is k e) = ap (isMain wd) is
+worked-main wd (sent out is k e) = ap (isMain wd) is
+worked-main wd (written t is off e) = ap (isMain wd) is
+worked-main wd (took acks is x rest front replied e) = ap (isMain wd) is
+worked-main wd (acked is a rest front taken e) = ap (isMain wd) is
 
 work-reads : (s : Step) (reply : Reply) (wd wd′ : World) → Work s reply wd wd′ →
-    wd′ .current ≡ oneMore (isMain s && isDone reply) (wd .current)
-work-reads s reply wd wd′ (stays idle e) = rw (idle, and-false (isMain s)) (ap (λ x. x .current) e)
+    wd′ .current ≡ oneMore (isMain wd s && isDone reply) (wd .current)
+work-reads s reply wd wd′ (stays idle e) = rw (idle, and-false (isMain wd s)) (ap (λ x. x .current) e)
 work-reads s reply wd wd′ (mains i is done m) = rw (is, done) (m .current)
-work-reads s reply wd wd′ (works w h p′ work e sh) = rw (worked-main work) (ap (λ x. x .current) e)
+work-reads s reply wd wd′ (works w h p′ work e sh) = rw (worked-main wd work) (ap (λ x. x .current) e)
 
 -- ------------------------------------------------------------------------
 -- Takes
 
-taken-more : (b : Bool) (ps : List Placed) (x : Placed) → length (cond b (ps ++ (x ∷ [])) ps) ≡ oneMore b (length ps)
-taken-more true ps x = length-append ps (x ∷ []) ∙ add-one (length ps)
-taken-more false ps x = refl
+-- how many of its own a window has taken
+abbrev ownTaken : ℕ → Side → ℕ
+ownTaken w p = length (ownOf w (p .taken))
 
--- at the window that works, one entry more is taken by a Take answered 0
-worked-takes : {j : List Entry} {limit w : ℕ} {s : Step} {reply : Reply} {p p′ : Side} → Worked j limit w s reply p p′ →
-    length (p′ .taken) ≡ oneMore (isTakeOf w s && isDone reply) (length (p .taken))
+-- one more, where one of its own is taken
+taken-more : (w : ℕ) (done : Bool) (ps : List Placed) (x : Placed) →
+    length (ownOf w (cond done (ps ++ (x ∷ [])) ps)) ≡ oneMore (isOwn w x && done) (length (ownOf w ps))
+unfolding keep
+taken-more w true ps x =
+    rw (keep-append (isOwn w) ps (x ∷ []), length-append (ownOf w ps) (ownOf w (x ∷ [])), and-true (isOwn w x)) (by (isOwn w x))
+  where
+    by : (b : Bool) → length (ownOf w ps) + length (cond b (x ∷ []) []) ≡ oneMore b (length (ownOf w ps))
+    by true = omega arith
+    by false = omega arith
+taken-more w false ps x = rw (and-false (isOwn w x))
+
+-- at the window that works, one of its own more is taken by a Take of one that is answered 0
+worked-takes : {s : Step} {reply : Reply} {p′ : Side} (wd : World) (w : ℕ) → Worked (wd .journal) (wd .limit) w s reply (sideAt w wd) p′ →
+    ownTaken w p′ ≡ oneMore (isTakeOf w wd s && isDone reply) (ownTaken w (sideAt w wd))
 unfolding takeFront
-worked-takes (caught t i is k e) = rw (is, e)
-worked-takes (sent out is k e) = rw (is, e)
-worked-takes (written t is off e) = rw (is, e)
-worked-takes {w = w} {p = p} (took acks is x rest front replied e) =
-    rw (is, replied, e, eq-eqb w w refl) (taken-more (eqb (takeNumbers (fiveOf (x .placed)) (p .record′) .number) 0) (p .taken) (x .placed))
-worked-takes (acked is a rest front taken e) = rw (is, e)
+worked-takes wd w (caught t i is k e) = rw (is, e)
+worked-takes wd w (sent out is k e) = rw (is, e)
+worked-takes wd w (written t is off e) = rw (is, e)
+worked-takes wd w (took acks is x rest front replied e) =
+    rw (is, replied, e, eq-eqb w w refl, front)
+    (taken-more w (eqb (takeNumbers (fiveOf (x .placed)) (sideAt w wd .record′) .number) 0) (sideAt w wd .taken) (x .placed))
+worked-takes wd w (acked is a rest front taken e) = rw (is, e)
 
 -- and at no other
-worked-others : {j : List Entry} {limit v : ℕ} {s : Step} {reply : Reply} {p p′ : Side} (w : ℕ) → (w ≡ v → ⊥) →
-    Worked j limit v s reply p p′ → isTakeOf w s ≡ false
-worked-others w n (caught t i is k e) = ap (isTakeOf w) is
-worked-others w n (sent out is k e) = ap (isTakeOf w) is
-worked-others w n (written t is off e) = ap (isTakeOf w) is
-worked-others {v = v} w n (took acks is x rest front replied e) = ap (isTakeOf w) is ∙ ne-eqb v w (λ m. n (sym m))
-worked-others w n (acked is a rest front taken e) = ap (isTakeOf w) is
+worked-others : {j : List Entry} {limit v : ℕ} {s : Step} {reply : Reply} {p p′ : Side} (wd : World) (w : ℕ) → (w ≡ v → ⊥) →
+    Worked j limit v s reply p p′ → isTakeOf w wd s ≡ false
+worked-others wd w n (caught t i is k e) = ap (isTakeOf w wd) is
+worked-others wd w n (sent out is k e) = ap (isTakeOf w wd) is
+worked-others wd w n (written t is off e) = ap (isTakeOf w wd) is
+worked-others {v = v} wd w n (took acks is x rest front replied e) = ap (isTakeOf w wd) is ∙ rw (ne-eqb v w (λ m. n (sym m)))
+worked-others wd w n (acked is a rest front taken e) = ap (isTakeOf w wd) is
 
 work-takes : (w : ℕ) (s : Step) (reply : Reply) (wd wd′ : World) → w < length (wd .sides) → Work s reply wd wd′ →
-    length (sideAt w wd′ .taken) ≡ oneMore (isTakeOf w s && isDone reply) (length (sideAt w wd .taken))
-work-takes w s reply wd wd′ h (stays idle e) = rw (idle, and-false (isTakeOf w s)) (ap (λ x. length (sideAt w x .taken)) e)
-work-takes w s reply wd wd′ h (mains i is done m) = rw is (ap (λ p. length (p .taken)) (m .each w h))
+    ownTaken w (sideAt w wd′) ≡ oneMore (isTakeOf w wd s && isDone reply) (ownTaken w (sideAt w wd))
+work-takes w s reply wd wd′ h (stays idle e) = rw (idle, and-false (isTakeOf w wd s)) (ap (λ x. ownTaken w (sideAt w x)) e)
+work-takes w s reply wd wd′ h (mains i is done m) = rw is (ap (ownTaken w) (m .each w h))
 work-takes w s reply wd wd′ h (works v k p′ work e sh) =
-    ap (λ x. length (sideAt w x .taken)) e
-    ∙ getD-set-each (λ u p. length (p .taken) ≡ oneMore (isTakeOf u s && isDone reply) (length (sideAt u wd .taken)))
-    (wd .sides) v w p′ noSide k (worked-takes work) (λ n. rw (worked-others w n work))
+    ap (λ x. ownTaken w (sideAt w x)) e
+    ∙ getD-set-each (λ u p. ownTaken u p ≡ oneMore (isTakeOf u wd s && isDone reply) (ownTaken u (sideAt u wd)))
+    (wd .sides) v w p′ noSide k (worked-takes wd v work) (λ n. rw (worked-others wd w n work))
 
--- what a window has taken and what it has still to take are together its own entries
+-- what a window has taken of its own and what it has still to take are together its own entries
 to-take : (j : List Entry) (w : ℕ) (p : Side) → Taken j w (p .record′) (p .taken) →
-    length (p .taken) + length (toTake j w (p .record′ .last .0)) ≡ length (own j w)
+    ownTaken w p + length (toTake j w (p .record′ .last .0)) ≡ length (own j w)
 to-take j w p is =
     let last : ℕ = p .record′ .last .0 in
-    let taken : length (p .taken) ≡ length (due j w 0 last) = ap length (is .takenIs) ∙ length-map (due j w 0 last) (placedAt j) in
+    let taken : ownTaken w p ≡ length (due j w 0 last) = ap length (taken-own is) ∙ length-map (due j w 0 last) (placedAt j) in
     let all : length (own j w) ≡ length (due j w 0 (length j))
     = ap length (own-due j w) ∙ length-map (due j w 0 (length j)) (placedAt j) in
     let split : length (due j w 0 (length j)) ≡ length (due j w 0 last) + length (due j w last (length j))
@@ -194,18 +209,18 @@ module _ (wd : World) (steps : List Step) (r : Reached wd) where
         subst (λ j. Taken j w (sideAt w left .record′) (sideAt w left .taken)) (left-now .journal)
         (left-now .reached .each w (omega (arith, left-now .count, within-now)) .taken)
 
-    -- A result to be read: at any time the Takes of a window answered 0 since the last fault or append, and the planner's first figure now,
-    -- are its first figure then.
+    -- A result to be read: at any time the Takes of a window's own answered 0 since the last fault or append, and the planner's first figure
+    -- now, are its first figure then.
     pub takes-so-far : doneSince (isTakeOf w) 0 wd steps + figuresFor w now now .entries ≡ figuresFor w left now .entries
     unfolding figures
     takes-so-far =
-        let takes = counted (isTakeOf w) (λ x. length (sideAt w x .taken)) (length (wd .sides))
+        let takes = counted (isTakeOf w) (λ x. ownTaken w (sideAt w x)) (length (wd .sides))
         (λ s reply x x′ c. work-takes w s reply x x′ (omega arith))
-        0 wd wd steps r refl (zero-add (length (sideAt w wd .taken))) in
+        0 wd wd steps r refl (zero-add (ownTaken w (sideAt w wd))) in
         omega (arith, to-take (now .journal) w (sideAt w left) taken-left, to-take (now .journal) w (sideAt w now) taken-now)
 
     -- a window that has taken all of its own entries has none to take
-    none-to-take : sideAt w now .taken ≡ own (now .journal) w → figuresFor w now now .entries ≡ 0
+    none-to-take : ownOf w (sideAt w now .taken) ≡ own (now .journal) w → figuresFor w now now .entries ≡ 0
     unfolding figures
     none-to-take all = omega (arith, to-take (now .journal) w (sideAt w now) taken-now, ap length all)
 
@@ -217,16 +232,16 @@ module _ (wd : World) (steps : List Step) (r : Reached wd) where
         (omega (arith, within-now, is .most, windows-in now))
         ∙ ap (λ j. planned (figures j w (lastAt w left) (now .limit))) (entries-in now)
 
--- Document 02's counts, for every W, batch limit, set of silent windows, journal and list of steps
+-- Document 02's counts, for every W, batch limit, spacing, set of silent windows, journal and list of steps
 pub exact-counts : ExactCounts
-exact-counts before j count limit silent steps done =
-    let wd : World = opened j (firstStart before j count limit silent) in
-    let r : Reached wd = opened-reached before j count limit silent done in
-    let n : length (wd .sides) ≡ count = opened-count before j count limit silent done in
+exact-counts before j count limit spacing silent steps done =
+    let wd : World = opened j (firstStart before j count limit spacing silent) in
+    let r : Reached wd = opened-reached before j count limit spacing silent done in
+    let n : length (wd .sides) ≡ count = opened-count before j count limit spacing silent done in
     record {
       asked = λ w h. figures-now wd steps r w (omega arith);
       takes = λ joined none w h.
-          let all = demand-3 before j count limit silent steps done .finish joined none w h in
+          let all = demand-3 before j count limit spacing silent steps done .finish joined none w h in
           omega (arith, takes-so-far wd steps r w (omega arith), none-to-take wd steps r w (omega arith) all);
       mains = λ joined none. omega (arith, mains-so-far wd steps r, all-read (run wd steps) (reached-now wd steps r) none);
     }

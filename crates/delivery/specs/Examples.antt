@@ -14,8 +14,8 @@ use Rattle.record.specs.Record.{raceAfter, racesAfter, recordAfter, takeEntry, 
 use Rattle.rules.specs.declared.Term.{Term}
 use Rattle.rules.specs.View.{normal, WindowView, PlayerView}
 use Rattle.rules.specs.Shape.{windowShape, shape}
-use Rattle.rules.specs.Window.{unheard, check, enqueue, mainAt, fetched, catchIn, catchAt, readyIn, batchOf, launched, sendAt, writtenAt, ackAt, dropAt, joinAt}
-use Rattle.rules.specs.Rules.{speaks, operate, mapWindows, mainRule, catchRule, writtenRule, ackRule, dropRule, joinRule, sendRule, saidFrom, areReports, spoken, least, startRule}
+use Rattle.rules.specs.Window.{unheard, check, enqueue, readAt, tickAt, mainAt, fetched, catchIn, catchAt, readyIn, batchOf, launched, sendAt, writtenAt, ackAt, dropAt, joinAt}
+use Rattle.rules.specs.Rules.{speaks, operate, mapWindows, mainRule, catchRule, writtenRule, ackRule, dropRule, joinRule, sendRule, saidFrom, sentFor, spoken, least, startRule}
 use Rattle.delivery.specs.World.{World, sideAt, withViews, withPlayer, onLine, takeFront, Step, main, catch, written, send, take, ack, drop, join, start, Reply, answered, empty, step, run, replies, opened}
 use Rattle.delivery.specs.Same.{sameList, sameWindow, sameRace, sameRecord, sameEntry, sameSent, sameAck, sameSide, sameWorld}
 use Rattle.delivery.specs.Statement.{changes, joinedAfter, firstStart}
@@ -24,9 +24,9 @@ use Rattle.delivery.specs.Statement.{changes, joinedAfter, firstStart}
 unfoldable pub computed : Unit {0}
 unfolding
     replies run step opened withViews withPlayer onLine takeFront
-    startRule saidFrom areReports spoken least mainRule catchRule writtenRule ackRule dropRule joinRule sendRule operate mapWindows
+    startRule saidFrom sentFor spoken least mainRule catchRule writtenRule ackRule dropRule joinRule sendRule operate mapWindows
     shape windowShape all
-    check enqueue mainAt fetched catchIn catchAt readyIn batchOf launched sendAt writtenAt ackAt dropAt joinAt above
+    check enqueue readAt tickAt mainAt fetched catchIn catchAt readyIn batchOf launched sendAt writtenAt ackAt dropAt joinAt above
     raceAfter racesAfter recordAfter takeEntry takeNumbers
     numbersOf entriesOf entryAt hasWindow isFor own
 computed = tt
@@ -48,11 +48,15 @@ abbrev pub shownAt : ℕ → World → Shown
 shownAt w wd = record { last = sideAt w wd .record′ .last .0; count = sideAt w wd .record′ .count }
 
 abbrev pub nobody : PlayerView
-nobody = record { limit = 0; current = 0; windows = [] }
+nobody = record { limit = 0; spacing = 0; current = 0; windows = [] }
+
+-- a spacing at which these runs have no tick
+abbrev pub wide : ℕ
+wide = 65535
 
 -- a run's beginning: W windows, batch limit 2, and a set of silent windows
 abbrev pub openedWithout : ℕ → List Entry → ℕ → World
-openedWithout silent j count = opened j (firstStart nobody j count 2 silent)
+openedWithout silent j count = opened j (firstStart nobody j count 2 wide silent)
 
 -- no window is silent
 abbrev pub openedWith : List Entry → ℕ → World
@@ -88,7 +92,7 @@ drop-before-ack = record { answers = refl; window0 = refl; acknowledged = refl }
 -- the player starts anew in the middle of a batch: the second entry was on the line and is sent again, and taken once
 abbrev pub startSteps : List Step
 startSteps =
-    main 1 ∷ main 2 ∷ send 0 room ∷ take 0 false ∷ start 2 0 ∷ take 0 false ∷ main 1 ∷ main 2 ∷ send 0 room ∷ take 0 false ∷ ack 0 ∷ []
+    main 1 ∷ main 2 ∷ send 0 room ∷ take 0 false ∷ start 2 wide 0 ∷ take 0 false ∷ main 1 ∷ main 2 ∷ send 0 room ∷ take 0 false ∷ ack 0 ∷ []
 
 pub record StartInBatch : Type 0 where
   pub answers : replies (openedWith afternoon 2) startSteps ≡
@@ -170,7 +174,7 @@ all-silent = record { read = refl; answers = refl; window1 = refl }
 -- The player starts anew in the middle of a batch, and the window that was taking it is silent: its line is empty, and it is not joined. It
 -- joins from what it has taken, is sent the second entry again, and takes it once.
 abbrev pub silentSteps : List Step
-silentSteps = main 1 ∷ main 2 ∷ send 0 room ∷ take 0 false ∷ start 2 1 ∷ []
+silentSteps = main 1 ∷ main 2 ∷ send 0 room ∷ take 0 false ∷ start 2 wide 1 ∷ []
 
 abbrev pub againSteps : List Step
 againSteps =
@@ -204,8 +208,8 @@ heldWith acked sent batches = record {
 }
 
 pub record AckOutsideRuns : Type 0 where
-  pub byValue : ackAt afternoon 0 (term 1) 1 (heldWith 0 3 (3 ∷ 1 ∷ 2 ∷ 3 ∷ 0 ∷ [])) .next ≡ heldWith 1 3 (3 ∷ 2 ∷ 3 ∷ [])
-  pub behind : ackAt afternoon 0 (term 1) 2 (heldWith 3 1 (2 ∷ [])) .answer ≡ 11
+  pub byValue : ackAt (term 1) 1 (heldWith 0 3 (3 ∷ 1 ∷ 2 ∷ 3 ∷ 0 ∷ [])) .next ≡ heldWith 1 3 (3 ∷ 2 ∷ 3 ∷ [])
+  pub behind : ackAt (term 1) 2 (heldWith 3 1 (2 ∷ [])) .answer ≡ 11
 
 pub ack-outside-runs : AckOutsideRuns
 unfolding computed

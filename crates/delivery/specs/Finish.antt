@@ -6,26 +6,27 @@ use mathlib.Core.List.{List, [], _∷_, _++_, map, append-nil}
 use mathlib.Core.Bool.{true, false, true≢false, false≢true}
 use native.Mathlib.Omega.{arith}
 use lib.ListN.{length, take, replicate, length-replicate}
-use Rattle.lists.specs.Cases.{true-or-false, le-or-lt, and-left}
-use Rattle.lists.specs.All.{all}
+use Rattle.lists.specs.Cases.{true-or-false, le-or-lt}
+use Rattle.lists.specs.Keep.{keep}
 use Rattle.journal.specs.declared.Entry.{Entry}
-use Rattle.journal.specs.Entry.{placedAt, entriesOf, isFor}
+use Rattle.journal.specs.Entry.{placedAt, isFor}
 use Rattle.journal.specs.Due.{due, due-split}
-use Rattle.journal.specs.Own.{own, own-due}
+use Rattle.journal.specs.Own.{own, ownOf, own-due}
 use Rattle.rules.specs.View.{Condition, normal, fetching, completed, suspended, WindowView}
 use Rattle.rules.specs.Shape.{isEmpty}
 use Rattle.rules.specs.Offers.{shaped, batchOf-normal, batchOf-fetching, batchOf-more, batchOf-all, isEmpty-some, mainRule-can, catchRule-can, sendRule-can, writtenRule-can, ackRule-can}
 use Rattle.rules.specs.Window.{isSuspended, requeue, batchOf}
-use Rattle.rules.specs.Rules.{windowAt, ackRule}
+use Rattle.rules.specs.Rules.{windowAt, ackRule, sentFor}
 use Rattle.delivery.specs.World.{Sent, Ack, Side, World, sideAt, numbersIn, playerIn, Step, main, catch, written, send, ack, step}
 use Rattle.delivery.specs.World as W
 use Rattle.delivery.specs.SameLaws.{seen, WorldIs, sameWorld-equal}
 use Rattle.delivery.specs.Statement.{isWork, NoneCan}
-use Rattle.delivery.specs.Invariant.{Queues, Inv, Reached, lastOf, lineEntries}
+use Rattle.delivery.specs.Invariant.{Whole, Queues, Inv, Reached, lastOf, lineEntries}
 use Rattle.delivery.specs.Lines.{line-here, unacked-none}
 use Rattle.delivery.specs.Queued.{isEmpty-append}
+use Rattle.delivery.specs.KeepLine.{taken-own}
 use Rattle.delivery.specs.Measure.{viewWork, sideWork, worked-lowers}
-use Rattle.delivery.specs.Worlds.{entries-in, count-in, window-in, windows-in, withSide-here}
+use Rattle.delivery.specs.Worlds.{count-in, window-in, windows-in, withSide-here}
 use Rattle.delivery.specs.Effects.{WorksAt}
 use Rattle.delivery.specs.Stepped.{catch-works, written-works}
 use Rattle.delivery.specs.SteppedLine.{send-works, ack-works, take-works}
@@ -44,8 +45,10 @@ module _ (j : List Entry) (c w acked sent limit : ℕ) (some : 1 ≤ limit) (v :
   none-due : (n q : List ℕ) (s : Condition) → Queues j c w acked sent n q s → isSuspended s ≡ false →
       isEmpty (batchOf limit (requeue n q s v) .indices) ≡ true → ((next end : ℕ) → s ≡ fetching next end → q ≡ [] → ⊥) →
       due j w sent c ≡ []
+  unfolding keep
   none-due n q normal is here none stuck =
-      sym (is .normalHas .own) ∙ take-nil limit n some (sym (ap (λ b. isEmpty (b .indices)) (batchOf-normal v limit n q)) ∙ none)
+      sym (is .normalHas .own)
+      ∙ ap (keep (isFor j w)) (take-nil limit n some (sym (ap (λ b. isEmpty (b .indices)) (batchOf-normal v limit n q)) ∙ none))
   none-due n q (fetching next end) is here none stuck =
       let law = batchOf-fetching v limit next end n q in
       absurd (stuck next end refl (take-nil limit q some (sym (ap (λ b. isEmpty (b .indices)) law) ∙ none)))
@@ -61,22 +64,24 @@ module _ (j : List Entry) (c w acked sent limit : ℕ) (some : 1 ≤ limit) (v :
       (le-or-lt (length q) limit)
   none-due n q suspended is here none stuck = absurd (true≢false here)
 
-map-nil : (j : List Entry) (xs : List ℕ) → [] ≡ map (placedAt j) xs → xs ≡ []
-map-nil j [] e = refl
-map-nil j (x ∷ xs) e = absurd (let z : _≡_ {A = ℕ} 0 1 = cc in omega arith)
+map-nil : (j : List Entry) (w : ℕ) (xs : List ℕ) → [] ≡ map (sentFor j w) xs → xs ≡ []
+map-nil j w [] e = refl
+map-nil j w (x ∷ xs) e = absurd (let z : _≡_ {A = ℕ} 0 1 = cc in omega arith)
 
 -- a window, not Suspended, that has all on the line taken, and nothing due after sent, has taken all
 taken-whole : {j : List Entry} {c w : ℕ} {p : Side} → Inv j c w p → isSuspended (p .view .condition) ≡ false → p .line ≡ [] →
-    due j w (p .view .sent) (length j) ≡ [] → p .taken ≡ own j w
+    due j w (p .view .sent) (length j) ≡ [] → ownOf w (p .taken) ≡ own j w
+unfolding keep
 taken-whole {j} {c} {w} {p} inv here line queued =
+    let on : Whole j w (lastOf p) (p .view .sent) (p .line) = line-here (inv .flight .lineIs) here in
     let on-line : due j w (lastOf p) (p .view .sent) ≡ []
-    = map-nil j _ (sym (ap lineEntries line) ∙ line-here (inv .flight .lineIs) here) in
+    = sym (on .has .own) ∙ ap (keep (isFor j w)) (map-nil j w (on .order) (sym (ap lineEntries line) ∙ on .lineIs)) in
     let split : due j w 0 (length j) ≡ due j w 0 (lastOf p)
     = due-split j w 0 (lastOf p) (length j) (omega arith) (inv .taken .lastIn)
     ∙ ap (λ l. due j w 0 (lastOf p) ++ l)
     (due-split j w (lastOf p) (p .view .sent) (length j) (inv .flight .lastSent) (inv .flight .sentIn) ∙ ap₂ (λ a b. a ++ b) on-line queued)
     ∙ append-nil (due j w 0 (lastOf p)) in
-    inv .taken .takenIs ∙ ap (map (placedAt j)) (sym split) ∙ sym (own-due j w)
+    taken-own (inv .taken) ∙ ap (map (placedAt j)) (sym split) ∙ sym (own-due j w)
 
 -- ------------------------------------------------------------------------
 -- A world in which none can
@@ -132,20 +137,17 @@ module _ (wd : World) (r : Reached wd) (none : NoneCan wd) where
     line-empty (s ∷ rest) e = absurd (no-work w (W.take w false) refl (take-works wd (r .inShape) w false s rest h e))
 
     back-empty : (b : List Ack) → sideAt w wd .back ≡ b → b ≡ []
-    unfolding all
     back-empty [] e = refl
     back-empty (a ∷ rest) e =
         let un = rw e at (r .each w h .unacked) in
         let i : ℕ = a .index in
         let most : i ≤ v .sent = omega (arith, un .backRises .1, r .each w h .flight .lastSent) in
-        let own : isFor (entriesOf (numbersIn wd)) w i ≡ true
-        = ap (λ j. isFor j w i) (entries-in wd) ∙ and-left (isFor (wd .journal) w i) _ (un .backOwn) in
         let term : a .term ≡ windowAt w (playerIn wd) .term = un .backTerms .0 ∙ ap (λ x. x .term) (sym (window-in w wd)) in
         absurd (no-work w (ack w) refl
         (ack-works wd (r .inShape) w a rest h e
         (subst⁻¹ (λ t. ackRule (numbersIn wd) w t i (playerIn wd) .answer ≡ 0) term
         (ackRule-can (numbersIn wd) w (playerIn wd) (r .inShape) within i here′ (in-player (λ x. x .acked < i) (un .backRises .0))
-        (in-player (λ x. i ≤ x .sent) most) own))))
+        (in-player (λ x. i ≤ x .sent) most)))))
 
     -- no batch is unacknowledged
     none-out : sideAt w wd .view .batches ≡ []
@@ -172,7 +174,7 @@ module _ (wd : World) (r : Reached wd) (none : NoneCan wd) where
         (catchRule-can (numbersIn wd) w (playerIn wd) (r .inShape) within next end (in-player (λ x. x .condition ≡ fetching next end) e)
         (in-player (λ x. length (x .catchQueue) < 128) (rw q (omega arith)))))
 
-    pub taken-all : sideAt w wd .taken ≡ own (wd .journal) w
+    pub taken-all : ownOf w (sideAt w wd .taken) ≡ own (wd .journal) w
     taken-all =
         let limit = shaped (numbersIn wd) (playerIn wd) (r .inShape) .limitSome in
         taken-whole (r .each w h) here (line-empty (sideAt w wd .line) refl)

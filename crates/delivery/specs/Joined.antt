@@ -14,7 +14,7 @@ use Rattle.lists.specs.Cases.{le-or-lt}
 use Rattle.lists.specs.Set.{getD-set-each}
 use Rattle.rules.specs.View.{Condition, normal, fetching, completed, WindowView}
 use Rattle.rules.specs.Shape.{isEmpty}
-use Rattle.rules.specs.Window.{isSuspended, isReport, mainAt, fetched, batchOf, told, silence, startedBy}
+use Rattle.rules.specs.Window.{isSuspended, mainAt, fetched, batchOf, told, silence, startedBy}
 use Rattle.rules.specs.Rules.{windowAt, speaks}
 use Rattle.rules.specs.Offers.{ConditionAfter, batchOf-condition, oneIf, mainAt-either, fetched-more, fetched-last, launched-is, joinRule-can}
 use Rattle.rules.specs.Offers as B
@@ -22,7 +22,7 @@ use Rattle.delivery.specs.World.{Side, World, noSide, sideAt, numbersIn,
 use Rattle.delivery.specs.World as W
 use Rattle.delivery.specs.Statement.{begins, joinedBy, joinedAfter}
 use Rattle.delivery.specs.Invariant.{Reached, lastOf}
-use Rattle.delivery.specs.Worlds.{entries-in, window-in, windows-in, withSide-count}
+use Rattle.delivery.specs.Worlds.{window-in, windows-in, withSide-count}
 use Rattle.delivery.specs.Effects.{Worked, Work, stays, mains, works, work-count, Facts, working, dropping, joining, starting, appending}
 use Rattle.delivery.specs.Effects as E
 use Rattle.delivery.specs.SteppedAll.{step-facts}
@@ -38,7 +38,7 @@ step-count wd s r = by (step-facts wd (r .inShape) s)
     by (working quiet work) = work-count wd _ work
     by (dropping w is done h e sh) = ap (λ x. length (x .sides)) e ∙ withSide-count w _ wd
     by (joining w is done h away e sh) = ap (λ x. length (x .sides)) e ∙ withSide-count w _ wd
-    by (starting b silent is done m) = m .count
+    by (starting b spacing silent is done m) = m .count
     by (appending e is done h is′) = ap (λ x. length (x .sides)) is′
 
 pub run-count : (wd : World) (ss : List Step) → Reached wd → length (run wd ss .sides) ≡ length (wd .sides)
@@ -52,10 +52,11 @@ run-count wd (s ∷ ss) r = run-count (step s wd .world) ss (reached-step wd s r
 abbrev away : Side → Bool
 away p = isSuspended (p .view .condition)
 
-main-away : (j : List Entry) (w i : ℕ) (v : WindowView) → isSuspended (mainAt j w i v .condition) ≡ isSuspended (v .condition)
-main-away j w i v =
-    mainAt-either j w i v (λ x. isSuspended (x .condition) ≡ isSuspended (v .condition)) refl (λ here. refl) (λ e. sym (ap isSuspended e))
-    (λ n end e. sym (ap isSuspended e)) (λ end e. sym (ap isSuspended e))
+main-away : (j : List Entry) (w e i : ℕ) (v : WindowView) → isSuspended (mainAt j w e i v .condition) ≡ isSuspended (v .condition)
+main-away j w e i v =
+    mainAt-either j w e i v (λ x. isSuspended (x .condition) ≡ isSuspended (v .condition)) refl (λ here. refl)
+    (λ is. sym (ap isSuspended is)) (λ n end is. sym (ap isSuspended is)) (λ end is. sym (ap isSuspended is))
+    (λ t. sym (ap isSuspended (t .condition)))
 
 fetched-away : (b : Bool) (n end : ℕ) (v : WindowView) → isSuspended (fetched b n end v .condition) ≡ false
 fetched-away b n end v =
@@ -92,7 +93,7 @@ replaced-away wd wd′ v w p′ h e b this other =
 work-away : {s : Step} {reply : Reply} (wd wd′ : World) (w : ℕ) → w < length (wd .sides) → Work s reply wd wd′ →
     away (sideAt w wd′) ≡ away (sideAt w wd)
 work-away wd wd′ w h (stays idle e) = ap (λ x. away (sideAt w x)) e
-work-away wd wd′ w h (mains i is done m) = ap away (m .each w h) ∙ main-away (wd .journal) w (suc (wd .current)) (sideAt w wd .view)
+work-away wd wd′ w h (mains i is done m) = ap away (m .each w h) ∙ main-away (wd .journal) w (wd .spacing) (suc (wd .current)) (sideAt w wd .view)
 work-away wd wd′ w h (works v k p′ work e s) =
     replaced-away wd wd′ v w p′ k e (λ u. away (sideAt u wd)) (worked-away (wd .journal) (wd .limit) v (sideAt v wd) p′ work) (λ n. refl)
 
@@ -109,7 +110,7 @@ joined-quiet w (ack v) r b e = refl
 joined-quiet w (late-ack v t i) r b e = refl
 joined-quiet w (drop v) r b e = rw e
 joined-quiet w (join v) r b e = rw e
-joined-quiet w (start l silent) r b e = rw e
+joined-quiet w (start l spacing silent) r b e = rw e
 joined-quiet w (append x) r b e = refl
 
 joined-condition : (t : Bool) (n c : ℕ) → isSuspended (cond t (fetching n c) normal) ≡ false
@@ -142,8 +143,8 @@ joined-step wd s w b r h is = by (step-facts wd (r .inShape) s)
         replaced-away wd _ v w _ k is′ after
         (rw (← step-is (join v) e v, done, eq-eqb v v refl) (joined-condition (ltb (lastOf (sideAt v wd)) (wd .current)) _ (wd .current)))
         (λ n. rw (← step-is (join v) e w, done, ne-eqb v w (λ m. n (sym m))) is)
-    by (starting l silent e done m) =
-        ap away (m .each w h) ∙ rw (← step-is (start l silent) e w, done) (startedBy-away (speaks silent w) _ _)
+    by (starting l spacing silent e done m) =
+        ap away (m .each w h) ∙ rw (← step-is (start l spacing silent) e w, done) (startedBy-away (speaks silent w) _ _)
     by (appending x e done k is′) = ap (λ y. away (sideAt w y)) is′ ∙ is ∙ ap not (step-is (append x) e w)
 
 pub joined-run : (wd : World) (ss : List Step) (w : ℕ) (b : Bool) → Reached wd → w < length (wd .sides) → away (sideAt w wd) ≡ not b →
@@ -168,5 +169,4 @@ away-joins wd r w h gone term =
     ap answered
     (joinRule-can (numbersIn wd) w (playerIn wd) (r .inShape) (omega (arith, windows-in wd)) last
     (held (λ v. isSuspended (v .condition) ≡ true) gone) (held (λ v. v .term .0 < 4294967295) term)
-    (held (λ v. v .acked ≤ last) (inv .unacked .ackedLast)) (held (λ v. last ≤ v .sent) (inv .flight .lastSent))
-    (ap (λ j. isReport j w last) (entries-in wd) ∙ inv .taken .lastOwn))
+    (held (λ v. v .acked ≤ last) (inv .unacked .ackedLast)) (held (λ v. last ≤ v .sent) (inv .flight .lastSent)))

@@ -8,15 +8,15 @@ use native.Mathlib.Omega.{arith}
 use borrow.Author.Tests.{lt-ltb}
 use Rattle.journal.specs.declared.Entry.{Entry}
 use Rattle.journal.specs.Entry.{isFor}
-use Rattle.lists.specs.Cases.{le-or-lt}
+use Rattle.lists.specs.Cases.{le-or-lt, and-left}
 use Rattle.rules.specs.declared.Term.{Term}
 use Rattle.rules.specs.View.{normal, fetching, completed, WindowView}
 use Rattle.rules.specs.Shape.{isEmpty}
 use Rattle.rules.specs.Window.{requeue, wanted, fetched}
 use Rattle.rules.specs.Offers.{oneIf, fetched-more, fetched-last, Caught}
 use Rattle.delivery.specs.World.{Side, withView}
-use Rattle.delivery.specs.Invariant.{Inv, Holds, FetchingQueues}
-use Rattle.delivery.specs.Queued.{holds-to, holds-next, holds-append, withQueues, withQueues-same, keep-requeue}
+use Rattle.delivery.specs.Invariant.{Inv, Holds, TickFirst, FetchingQueues}
+use Rattle.delivery.specs.Queued.{holds-to, holds-next, holds-append, plain-first, first-more, withQueues, withQueues-same, keep-requeue}
 
 -- a window that is Fetching i u, with its queues named
 module _ (j : List Entry) (c w : ℕ) (p : Side) (n q : List ℕ) (i u : ℕ) (inv : Inv j c w (withQueues n q (fetching i u) p)) where
@@ -36,6 +36,10 @@ module _ (j : List Entry) (c w : ℕ) (p : Side) (n q : List ℕ) (i u : ℕ) (i
       = simp (lt-ltb (p .view .acked) i (omega (arith, inv .unacked .ackedLast, inv .flight .lastSent, is .behind)), and-true) in
       holds-next i (wanted j w i (p .view)) e (is .behind) (is .catchHas)
 
+  after-first : TickFirst j w after
+  after-first =
+      first-more i (wanted j w i (p .view)) (λ want. and-left (isFor j w i) _ want) (is .tickFirst)
+
   abbrev Kept : WindowView → Type 0
   Kept v = Inv j c w (withView v p)
 
@@ -49,19 +53,22 @@ module _ (j : List Entry) (c w : ℕ) (p : Side) (n q : List ℕ) (i u : ℕ) (i
         read = is .read;
         catchHas = holds-to (omega arith) after-has;
         normalHas = is .normalHas;
+        tickFirst = after-first;
+        noTick = is .noTick;
       }))
 
   last : u ≤ i → Kept (fetched (wanted j w i (p .view)) i u view)
-  last h = subst⁻¹ Kept (fetched-last (wanted j w i (p .view)) i u view h) (by after (holds-to (omega (arith, is .order)) after-has))
+  last h = subst⁻¹ Kept (fetched-last (wanted j w i (p .view)) i u view h) (by after (holds-to (omega (arith, is .order)) after-has) after-first)
     where
-      by : (q′ : List ℕ) → Holds j w (p .view .sent) u q′ → Kept (requeue n q′ (cond (isEmpty q′) normal (completed u)) (p .view))
-      by [] has =
+      by : (q′ : List ℕ) → Holds j w (p .view .sent) u q′ → TickFirst j w q′ → Kept (requeue n q′ (cond (isEmpty q′) normal (completed u)) (p .view))
+      by [] has first =
           keep-requeue n [] normal inv refl
           (record {
             ahead = omega (arith, is .behind, is .order, is .read);
             normalHas = holds-append (omega (arith, is .behind, is .order)) (is .read) has (is .normalHas);
+            tickFirst = plain-first (is .noTick);
           })
-      by (x ∷ q′) has =
+      by (x ∷ q′) has first =
           keep-requeue n (x ∷ q′) (completed u) inv refl
           (record {
             behind = omega (arith, is .behind, is .order);
@@ -69,6 +76,8 @@ module _ (j : List Entry) (c w : ℕ) (p : Side) (n q : List ℕ) (i u : ℕ) (i
             some = refl;
             catchHas = has;
             normalHas = is .normalHas;
+            tickFirst = first;
+            noTick = is .noTick;
           })
 
   keep-fetched : Kept (fetched (wanted j w i (p .view)) i u view)

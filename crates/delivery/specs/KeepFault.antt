@@ -1,29 +1,26 @@
 -- Drop, Join, Start and an append keep the invariant.
 use Prim.Native.Nat.{ℕ, _+_, _-_, _≤_, _<_}
-use mathlib.Core.Path.{_≡_, refl, sym, ap, ap₂, _∙_}
+use mathlib.Core.Path.{_≡_, refl, sym, ap, _∙_}
 use mathlib.Core.Logic.{⊎-elim}
 use mathlib.Core.List.{List, [], _∷_, _++_, map}
-use mathlib.Core.Bool.{Bool, true, false, cond, _||_, true≢false, false≢true}
+use mathlib.Core.Bool.{Bool, true, false, cond, true≢false, false≢true}
 use native.Mathlib.Omega.{arith}
 use native.Mathlib.Nat.{le-refl}
 use borrow.Author.Tests.{lt-ltb, le-ltb}
 use lib.ListN.{length, length-append}
-use lib.Dec.{eqb}
 use Rattle.journal.specs.declared.Entry.{Entry}
-use Rattle.journal.specs.Entry.{placedAt, isFor}
-use Rattle.journal.specs.EntryLaws.{entryAt-append, isFor-append}
-use Rattle.lists.specs.Cases.{le-or-lt, and-left, and-right, and-intro}
-use Rattle.lists.specs.All.{all}
-use Rattle.journal.specs.Due.{due, due-empty, due-rising, due-append}
-use Rattle.lists.specs.Rising.{Rising}
+use Rattle.lists.specs.Cases.{le-or-lt}
+use Rattle.lists.specs.Elem.{lastOr}
+use Rattle.lists.specs.Keep.{map-alike}
 use Rattle.rules.specs.declared.Term.{Term}
 use Rattle.rules.specs.View.{Condition, normal, fetching, completed, suspended, WindowView}
 use Rattle.rules.specs.Window.{isSuspended, dropped, joined, told, silence, started, unheard, startedBy}
-use Rattle.rules.specs.Rules.{speaks, saidBy}
+use Rattle.rules.specs.Rules.{speaks, saidBy, sentFor}
+use Rattle.rules.specs.Offers.{sentFor-append}
 use Rattle.delivery.specs.World.{Sent, Side, withView, cleared}
-use Rattle.delivery.specs.Invariant.{Taken, LineHas, whole, nothing, Unacknowledged, Queues, QueuesOf, Inv, lastOf, backIndices}
+use Rattle.delivery.specs.Invariant.{Holds, Taken, LineHas, whole, nothing, Unacknowledged, Queues, QueuesOf, Inv, lastOf}
 use Rattle.delivery.specs.Lines.{line-away}
-use Rattle.delivery.specs.Queued.{holds-none, holds-journal}
+use Rattle.delivery.specs.Queued.{holds-none, holds-journal, plain-none, first-none, plain-journal, first-journal}
 
 -- ------------------------------------------------------------------------
 -- Drop
@@ -40,11 +37,11 @@ keep-drop inv = record {
   unacked = record {
     ackedLast = inv .unacked .ackedLast;
     backTerms = inv .unacked .backTerms;
-    backOwn = inv .unacked .backOwn;
     backRises = inv .unacked .backRises;
     batchesRise = tt;
     batchesOut = λ x h. absurd (false≢true h);
     noBatches = λ h. refl;
+    newest = λ h. absurd (true≢false h);
   };
   queues = record { normalIs = refl; catchIs = refl };
   busySent = inv .busySent;
@@ -54,17 +51,16 @@ keep-drop inv = record {
 -- Join and Start: both ways of the line are empty, and acknowledged and sent are the record's last index; a window silent at Start is away
 
 -- nothing on the line, no ack on the way back, and no batch unacknowledged
-unacked-cleared : {j : List Entry} {w : ℕ} {away : Bool} {t : Term} {acked last sent : ℕ} {batches : List ℕ} → acked ≤ last → batches ≡ [] →
-    Unacknowledged j w away t acked last sent batches [] []
-unfolding all
-unacked-cleared low none = record {
+unacked-cleared : {away : Bool} {t : Term} {acked last sent : ℕ} {batches : List ℕ} → acked ≤ last → (away ≡ false → acked ≡ sent) →
+    batches ≡ [] → Unacknowledged away t acked last sent batches [] []
+unacked-cleared {acked = acked} low all none = record {
   ackedLast = low;
   backTerms = tt;
-  backOwn = refl;
   backRises = tt;
   batchesRise = rw none tt;
   batchesOut = λ x h. absurd (false≢true (rw none at h));
   noBatches = λ h. none;
+  newest = λ h. ap (lastOr acked) none ∙ all h;
 }
 
 -- a window that begins anew from what it has taken
@@ -75,10 +71,10 @@ begun {j} {c} {w} p v taken acked sent free none queues = record {
   flight = record {
     lastSent = omega arith;
     sentIn = omega (arith, taken .lastIn);
-    lineIs = whole (ap (map (placedAt j)) (sym (due-empty j w (lastOf p) (v .sent) (omega arith))));
+    lineIs = whole (record { order = []; has = holds-none (omega arith); lineIs = refl });
     lineTerms = tt;
   };
-  unacked = unacked-cleared (omega arith) none;
+  unacked = unacked-cleared (omega arith) (λ h. omega arith) none;
   queues = queues;
   busySent = λ h. absurd (true≢false (sym h ∙ free));
 }
@@ -88,7 +84,7 @@ silenced : {j : List Entry} {c w : ℕ} (p : Side) → Taken j w (p .record′) 
 silenced {j} p taken = record {
   taken = taken;
   flight = record { lastSent = taken .lastIn; sentIn = le-refl (length j); lineIs = nothing refl refl; lineTerms = tt };
-  unacked = unacked-cleared (omega arith) refl;
+  unacked = unacked-cleared (omega arith) (λ h. absurd (true≢false h)) refl;
   queues = record { normalIs = refl; catchIs = refl };
   busySent = λ h. absurd (false≢true h);
 }
@@ -100,7 +96,8 @@ keep-start {j} {c} {w} silent p taken low = by (speaks silent w) low
   where
     by : (b : Bool) → (b ≡ true → c ≤ lastOf p) → Inv j c w (cleared (withView (startedBy (length j) (cond b (told (lastOf p)) silence)) p))
     by true h =
-        begun p (started (lastOf p)) taken refl refl refl refl (record { ahead = omega arith; normalHas = holds-none (h refl) })
+        begun p (started (lastOf p)) taken refl refl refl refl
+        (record { ahead = omega arith; normalHas = holds-none (h refl); tickFirst = first-none })
     by false h = silenced p taken
 
 pub keep-join : {j : List Entry} {c w : ℕ} {p : Side} → Inv j c w p → isSuspended (p .view .condition) ≡ true →
@@ -116,7 +113,8 @@ keep-join {j} {c} {w} {p} inv away =
     by (completed end) away′ is = absurd (false≢true away′)
     by suspended away′ is =
         ⊎-elim
-        (λ (h : c ≤ lastOf p). simp (le-ltb (lastOf p) c h) (record { ahead = omega arith; normalHas = rw (is .normalIs) (holds-none h) }))
+        (λ (h : c ≤ lastOf p). simp (le-ltb (lastOf p) c h)
+        (record { ahead = omega arith; normalHas = rw (is .normalIs) (holds-none h); tickFirst = rw (is .normalIs) first-none }))
         (λ (h : lastOf p < c).
         simp (lt-ltb (lastOf p) c h)
         (record {
@@ -125,6 +123,8 @@ keep-join {j} {c} {w} {p} inv away =
           read = le-refl c;
           catchHas = rw (is .catchIs) (holds-none (omega arith));
           normalHas = rw (is .normalIs) (holds-none (le-refl c));
+          tickFirst = rw (is .catchIs) first-none;
+          noTick = rw (is .normalIs) plain-none;
         }))
         (le-or-lt c (lastOf p))
 
@@ -135,36 +135,31 @@ module _ (j : List Entry) (e : Entry) (w : ℕ) where
   abbrev longer : List Entry
   longer = j ++ (e ∷ [])
 
-  -- entries up to the journal's end are the same after an append
-  placed-append : (a b : ℕ) (xs : List ℕ) → b ≤ length j → Rising a xs b → map (placedAt longer) xs ≡ map (placedAt j) xs
-  placed-append a b [] h r = refl
-  placed-append a b (x ∷ xs) h r =
-      ap₂ (λ q l. record { index = x; entry = q } ∷ l) (entryAt-append j e x (omega (arith, r .1))) (placed-append x b xs h (r .2))
-
-  due-placed : (a b : ℕ) → b ≤ length j → map (placedAt j) (due j w a b) ≡ map (placedAt longer) (due longer w a b)
-  due-placed a b h =
-      sym (placed-append a b (due j w a b) h (due-rising j w a b)) ∙ ap (map (placedAt longer)) (sym (due-append j e w a b h))
+  -- what goes out for an index up to the journal's end is the same after an append
+  order-append : {a b : ℕ} (xs : List ℕ) → b ≤ length j → Holds j w a b xs → map (sentFor j w) xs ≡ map (sentFor longer w) xs
+  order-append {a} {b} xs h has =
+      map-alike (sentFor j w) (sentFor longer w) a b xs (has .rises) (λ x k. sym (sentFor-append j e w x (omega arith)))
 
   line-append : {away : Bool} {last sent : ℕ} {line : List Sent} → sent ≤ length j → LineHas j w away last sent line →
       LineHas longer w away last sent line
-  line-append {last = last} {sent = sent} h (whole is) = whole (is ∙ due-placed last sent h)
+  line-append h (whole on) =
+      whole (record { order = on .order; has = holds-journal e h (on .has); lineIs = on .lineIs ∙ order-append (on .order) h (on .has) })
   line-append h (nothing gone none) = nothing gone none
 
-  owned-append : (a b : ℕ) (xs : List ℕ) → b ≤ length j → Rising a xs b → all (isFor j w) xs ≡ true → all (isFor longer w) xs ≡ true
-  unfolding all
-  owned-append a b [] h r own = refl
-  owned-append a b (x ∷ xs) h r own =
-      and-intro (isFor-append j e w x (omega (arith, r .1)) ∙ and-left (isFor j w x) _ own)
-      (owned-append x b xs h (r .2) (and-right (isFor j w x) _ own))
-
   queues-append : (c : ℕ) (v : WindowView) (s : Condition) → c ≤ length j → QueuesOf j c w v s → QueuesOf longer c w v s
-  queues-append c v normal h is = record { ahead = is .ahead; normalHas = holds-journal e h (is .normalHas) }
+  queues-append c v normal h is = record {
+    ahead = is .ahead;
+    normalHas = holds-journal e h (is .normalHas);
+    tickFirst = first-journal e h (is .normalHas) (is .tickFirst);
+  }
   queues-append c v (fetching next end) h is = record {
     behind = is .behind;
     order = is .order;
     read = is .read;
     catchHas = holds-journal e (omega (arith, is .order, is .read)) (is .catchHas);
     normalHas = holds-journal e h (is .normalHas);
+    tickFirst = first-journal e (omega (arith, is .order, is .read)) (is .catchHas) (is .tickFirst);
+    noTick = plain-journal e h (is .normalHas) (is .noTick);
   }
   queues-append c v (completed end) h is = record {
     behind = is .behind;
@@ -172,6 +167,8 @@ module _ (j : List Entry) (e : Entry) (w : ℕ) where
     some = is .some;
     catchHas = holds-journal e (omega (arith, is .read)) (is .catchHas);
     normalHas = holds-journal e h (is .normalHas);
+    tickFirst = first-journal e (omega (arith, is .read)) (is .catchHas) (is .tickFirst);
+    noTick = plain-journal e h (is .normalHas) (is .noTick);
   }
   queues-append c v suspended h is = is
 
@@ -179,8 +176,9 @@ module _ (j : List Entry) (e : Entry) (w : ℕ) where
   keep-append {c} {p} h inv = record {
     taken = record {
       lastIn = simp length-append (omega (arith, inv .taken .lastIn));
-      lastOwn = ap (λ b. eqb (lastOf p) 0 || b) (isFor-append j e w (lastOf p) (inv .taken .lastIn)) ∙ inv .taken .lastOwn;
-      takenIs = inv .taken .takenIs ∙ due-placed 0 (lastOf p) (inv .taken .lastIn);
+      order = inv .taken .order;
+      has = holds-journal e (inv .taken .lastIn) (inv .taken .has);
+      takenIs = inv .taken .takenIs ∙ order-append (inv .taken .order) (inv .taken .lastIn) (inv .taken .has);
       recordIs = inv .taken .recordIs;
     };
     flight = record {
@@ -189,17 +187,7 @@ module _ (j : List Entry) (e : Entry) (w : ℕ) where
       lineIs = line-append (inv .flight .sentIn) (inv .flight .lineIs);
       lineTerms = inv .flight .lineTerms;
     };
-    unacked = record {
-      ackedLast = inv .unacked .ackedLast;
-      backTerms = inv .unacked .backTerms;
-      backOwn =
-          owned-append (p .view .acked) (lastOf p) (backIndices (p .back)) (inv .taken .lastIn) (inv .unacked .backRises)
-          (inv .unacked .backOwn);
-      backRises = inv .unacked .backRises;
-      batchesRise = inv .unacked .batchesRise;
-      batchesOut = inv .unacked .batchesOut;
-      noBatches = inv .unacked .noBatches;
-    };
+    unacked = inv .unacked;
     queues = queues-append c (p .view) (p .view .condition) h (inv .queues);
     busySent = inv .busySent;
   }

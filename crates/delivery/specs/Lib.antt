@@ -5,6 +5,7 @@ pub mod Statement
 pub mod Counts
 pub mod Examples
 pub mod Invariant
+pub mod TickExamples
 pub mod Queued
 pub mod KeepMain
 pub mod KeepCatch
@@ -24,5 +25,6 @@ pub mod Bound
 pub mod Joined
 pub mod Finish
 pub mod Demand3
+pub mod Ticks
 pub mod ExactCounts
 pub mod CountExamples

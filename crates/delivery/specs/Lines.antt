@@ -4,13 +4,13 @@ use mathlib.Core.Path.{_≡_, refl, sym, ap, _∙_}
 use mathlib.Core.List.{List, [], _∷_, _++_, map, cons≢nil}
 use mathlib.Core.Bool.{Bool, true, false, cond, true≢false, false≢true}
 use Rattle.journal.specs.declared.Entry.{Entry}
-use Rattle.journal.specs.Entry.{placedAt}
-use Rattle.journal.specs.Due.{due}
 use Rattle.lists.specs.Elem.{lastOr, elem-none}
 use Rattle.rules.specs.declared.Term.{Term}
 use Rattle.rules.specs.Shape.{isEmpty}
+use Rattle.rules.specs.Rules.{sentFor}
+use Rattle.rules.specs.Offers.{sentFor-index}
 use Rattle.delivery.specs.World.{Sent, Ack, onLine}
-use Rattle.delivery.specs.Invariant.{lineEntries, endsOf, LineTerms, LineHas, whole, nothing, BackTerms, Unacknowledged}
+use Rattle.delivery.specs.Invariant.{lineEntries, endsOf, LineTerms, Whole, LineHas, whole, nothing, BackTerms, Unacknowledged}
 
 -- ------------------------------------------------------------------------
 -- append
@@ -36,23 +36,23 @@ endsOf-append (s ∷ l) m = endsOf-cons s l m (s .ends) (endsOf-append l m)
 -- ------------------------------------------------------------------------
 -- onLine
 
-pub onLine-entries : (j : List Entry) (t : Term) (xs : List ℕ) → lineEntries (onLine j t xs) ≡ map (placedAt j) xs
+pub onLine-entries : (j : List Entry) (w : ℕ) (t : Term) (xs : List ℕ) → lineEntries (onLine j w t xs) ≡ map (sentFor j w) xs
 unfolding onLine
-onLine-entries j t [] = refl
-onLine-entries j t (x ∷ []) = refl
-onLine-entries j t (x ∷ y ∷ xs) = ap (λ l. placedAt j x ∷ l) (onLine-entries j t (y ∷ xs))
+onLine-entries j w t [] = refl
+onLine-entries j w t (x ∷ []) = refl
+onLine-entries j w t (x ∷ y ∷ xs) = ap (λ l. sentFor j w x ∷ l) (onLine-entries j w t (y ∷ xs))
 
-pub onLine-terms : (j : List Entry) (t : Term) (xs : List ℕ) → LineTerms t (onLine j t xs)
+pub onLine-terms : (j : List Entry) (w : ℕ) (t : Term) (xs : List ℕ) → LineTerms t (onLine j w t xs)
 unfolding onLine
-onLine-terms j t [] = tt
-onLine-terms j t (x ∷ []) = (refl, tt)
-onLine-terms j t (x ∷ y ∷ xs) = (refl, onLine-terms j t (y ∷ xs))
+onLine-terms j w t [] = tt
+onLine-terms j w t (x ∷ []) = (refl, tt)
+onLine-terms j w t (x ∷ y ∷ xs) = (refl, onLine-terms j w t (y ∷ xs))
 
-pub onLine-ends : (j : List Entry) (t : Term) (xs : List ℕ) → isEmpty xs ≡ false → endsOf (onLine j t xs) ≡ lastOr 0 xs ∷ []
+pub onLine-ends : (j : List Entry) (w : ℕ) (t : Term) (xs : List ℕ) → isEmpty xs ≡ false → endsOf (onLine j w t xs) ≡ lastOr 0 xs ∷ []
 unfolding onLine endsOf
-onLine-ends j t [] e = absurd (true≢false e)
-onLine-ends j t (x ∷ []) e = refl
-onLine-ends j t (x ∷ y ∷ xs) e = onLine-ends j t (y ∷ xs) refl
+onLine-ends j w t [] e = absurd (true≢false e)
+onLine-ends j w t (x ∷ []) e = ap (λ i. i ∷ []) (sentFor-index j w x)
+onLine-ends j w t (x ∷ y ∷ xs) e = onLine-ends j w t (y ∷ xs) refl
 
 -- ------------------------------------------------------------------------
 -- what a line has
@@ -60,13 +60,13 @@ onLine-ends j t (x ∷ y ∷ xs) e = onLine-ends j t (y ∷ xs) refl
 module _ {j : List Entry} {w last sent : ℕ} where
   -- a window that is not Suspended has on its line what is due
   pub line-here : {away : Bool} {line : List Sent} → LineHas j w away last sent line → away ≡ false →
-      lineEntries line ≡ map (placedAt j) (due j w last sent)
+      Whole j w last sent line
   line-here (whole is) here = is
   line-here (nothing gone none) here = absurd (true≢false (sym gone ∙ here))
 
   -- and so has any window with something on its line
   pub line-some : {away : Bool} {s : Sent} {rest : List Sent} → LineHas j w away last sent (s ∷ rest) →
-      lineEntries (s ∷ rest) ≡ map (placedAt j) (due j w last sent)
+      Whole j w last sent (s ∷ rest)
   line-some (whole is) = is
   line-some (nothing gone none) = absurd (cons≢nil none)
 
@@ -79,7 +79,7 @@ module _ {j : List Entry} {w last sent : ℕ} where
 -- empty lines
 
 -- with nothing on the line and no ack on the way back, no batch is unacknowledged
-pub unacked-none : {j : List Entry} {w : ℕ} {away : Bool} {t : Term} {acked last sent : ℕ} {batches : List ℕ} →
-    Unacknowledged j w away t acked last sent batches [] [] → batches ≡ []
+pub unacked-none : {away : Bool} {t : Term} {acked last sent : ℕ} {batches : List ℕ} →
+    Unacknowledged away t acked last sent batches [] [] → batches ≡ []
 unfolding endsOf
 unacked-none {batches = batches} un = elem-none batches (λ x h. false≢true (un .batchesOut x h))

@@ -42,9 +42,9 @@ sideWork l c p = viewWork l c (p .view) + (l - lastOf p)
 -- ------------------------------------------------------------------------
 -- Main does not raise it
 
-pub main-work : (j : List Entry) (l c w : ℕ) (p : Side) → Inv j c w p → c < l → length j ≡ l →
-    sideWork l (suc c) (withView (mainAt j w (suc c) (p .view)) p) ≤ sideWork l c p
-main-work j l c w p inv h len = omega (arith, by)
+pub main-work : (j : List Entry) (l c w e : ℕ) (p : Side) → Inv j c w p → c < l → length j ≡ l →
+    sideWork l (suc c) (withView (mainAt j w e (suc c) (p .view)) p) ≤ sideWork l c p
+main-work j l c w e p inv h len = omega (arith, by)
   where
     still : (s : Condition) → ahead l (suc c) s ≤ ahead l c s
     still normal = omega arith
@@ -52,14 +52,15 @@ main-work j l c w p inv h len = omega (arith, by)
     still (completed end) = omega arith
     still suspended = omega arith
 
-    by : viewWork l (suc c) (mainAt j w (suc c) (p .view)) ≤ viewWork l c (p .view)
+    by : viewWork l (suc c) (mainAt j w e (suc c) (p .view)) ≤ viewWork l c (p .view)
     by =
-        mainAt-either j w (suc c) (p .view) (λ v. viewWork l (suc c) v ≤ viewWork l c (p .view))
+        mainAt-either j w e (suc c) (p .view) (λ v. viewWork l (suc c) v ≤ viewWork l c (p .view))
         (omega (arith, still (p .view .condition)))
         (λ here. omega (arith, still (p .view .condition)))
-        (λ e. omega (arith, ap (ahead l c) e))
-        (λ n end e. omega (arith, ap (ahead l c) e))
-        (λ end e. omega (arith, ap (ahead l c) e, queues-in inv (completed end) e .read))
+        (λ is. omega (arith, ap (ahead l c) is))
+        (λ n end is. omega (arith, ap (ahead l c) is))
+        (λ end is. omega (arith, ap (ahead l c) is, queues-in inv (completed end) is .read))
+        (λ t. omega (arith, ap (ahead l c) (t .condition)))
 
 -- ------------------------------------------------------------------------
 -- each piece of work lowers it
@@ -105,7 +106,7 @@ module _ {j : List Entry} {c w : ℕ} {p : Side} (inv : Inv j c w p) (read : c �
   worked-lowers limit p′ few (written t is off e) = rw e (omega (arith, ap busyOf (off .was)))
   worked-lowers limit p′ few (took acks is s rest at-front replied e) =
       let f : Front j w (lastOf p) (p .view .sent) s rest = front (rw at-front at (inv .flight)) in
-      rw e (omega (arith, take-last inv few acks s rest, f .begins .above, f .begins .within, inv .flight .sentIn))
+      rw e (omega (arith, take-last inv few acks s rest, f .above, f .within, inv .flight .sentIn))
   worked-lowers limit p′ few (acked is a rest at-front taken e) =
       let rises : Rising (p .view .acked) (backIndices (a ∷ rest)) (lastOf p) = rw at-front at (inv .unacked .backRises) in
       rw e (omega (arith, rises .0, rises .1, inv .flight .lastSent, inv .flight .sentIn))

@@ -9,12 +9,12 @@ use lib.ListN.{length}
 use lib.Dec.{eqb, leb}
 use borrow.Author.Tests.{leb-true}
 use Rattle.journal.specs.declared.Entry.{Entry}
-use Rattle.lists.specs.Cases.{and-right}
+use Rattle.lists.specs.Cases.{and-left, and-right}
 use Rattle.lists.specs.Set.{getD-set-each}
 use Rattle.journal.specs.Entry.{numbersOf, countOf}
 use Rattle.rules.specs.Shape.{shape}
 use Rattle.rules.specs.Offers.{shaped, append-shaped}
-use Rattle.delivery.specs.World.{Side, World, noSide, sideAt, numbersIn, playerIn, withSide, Step, drop, join, start, append, Reply, step, run}
+use Rattle.delivery.specs.World.{Side, World, noSide, sideAt, numbersIn, playerIn, withJournal, withSide, Step, drop, join, start, append, Reply, step, run}
 use Rattle.delivery.specs.Statement.{begins}
 use Rattle.delivery.specs.Invariant.{Inv, Reached}
 use Rattle.delivery.specs.KeepMain.{keep-main}
@@ -37,6 +37,11 @@ few-in wd r =
     let journal = shaped (numbersIn wd) (playerIn wd) (r .inShape) .journal in
     let whole : leb (countOf (numbersIn wd)) 65535 ≡ true = and-right (eqb (length (numbersIn wd) % 4) 0) _ journal in
     omega (arith, leb-true (countOf (numbersIn wd)) 65535 whole, count-in wd)
+
+-- the spacing is some
+pub spaced-in : (wd : World) → Reached wd → 1 ≤ wd .spacing
+spaced-in wd r =
+    leb-true 1 (wd .spacing) (and-left (leb 1 (wd .spacing)) _ (shaped (numbersIn wd) (playerIn wd) (r .inShape) .spacing))
 
 -- ------------------------------------------------------------------------
 -- one side
@@ -72,7 +77,7 @@ reached-work wd wd′ r (mains i is done m) = record {
   inShape = m .shaped;
   each = λ w h.
       let h′ : w < length (wd .sides) = omega (arith, m .count) in
-      rw (m .journal, m .current, m .each w h′) (keep-main (wd .journal) (wd .current) w (sideAt w wd) (r .each w h′));
+      rw (m .journal, m .current, m .each w h′) (keep-main (wd .journal) (wd .current) w (wd .spacing) (sideAt w wd) (spaced-in wd r) (r .each w h′));
 }
 reached-work wd wd′ r (works w h p′ work e s) =
     replaced wd wd′ w p′ r h e s (keep-worked (read-in wd r) (few-in wd r) (r .each w h) work)
@@ -91,7 +96,7 @@ numbersOf-append [] e = refl
 numbersOf-append (x ∷ j) e = ap (λ l. x .set ∷ x .kind ∷ x .race ∷ x .value ∷ l) (numbersOf-append j e)
 
 reached-append : (wd wd′ : World) (e : Entry) → Reached wd → length (wd .journal) < 65535 →
-    wd′ ≡ record { journal = wd .journal ++ (e ∷ []); limit = wd .limit; current = wd .current; sides = wd .sides } → Reached wd′
+    wd′ ≡ withJournal (wd .journal ++ (e ∷ [])) wd → Reached wd′
 reached-append wd wd′ e r h is =
     subst⁻¹ Reached is
     (record {
@@ -108,7 +113,7 @@ reached-step wd s r = by (step-facts wd (r .inShape) s)
     by (working quiet work) = reached-work wd _ r work
     by (dropping w is done h e sh) = replaced wd _ w _ r h e sh (keep-drop (r .each w h))
     by (joining w is done h away e sh) = replaced wd _ w _ r h e sh (keep-join (r .each w h) away)
-    by (starting b silent is done m) = reached-restart silent wd _ r m
+    by (starting b spacing silent is done m) = reached-restart silent wd _ r m
     by (appending e is done h same) = reached-append wd _ e r h same
 
 -- a step is a fault or an append, or else it does some work or nothing
@@ -124,7 +129,7 @@ begun-or-working wd s r = by (step-facts wd (r .inShape) s)
     by (working quiet work) = inr (quiet, work)
     by (dropping w is done h e sh) = inl (begun (drop w) is done)
     by (joining w is done h away e sh) = inl (begun (join w) is done)
-    by (starting b silent is done m) = inl (begun (start b silent) is done)
+    by (starting b spacing silent is done m) = inl (begun (start b spacing silent) is done)
     by (appending e is done h same) = inl (begun (append e) is done)
 
 pub reached-run : (wd : World) (ss : List Step) → Reached wd → Reached (run wd ss)

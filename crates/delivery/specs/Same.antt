@@ -71,4 +71,6 @@ sameSide a b =
 
 -- the player's state, the records and the lines
 unfoldable pub sameWorld : World → World → Bool
-sameWorld a b = eqb (a .limit) (b .limit) && (eqb (a .current) (b .current) && sameList sameSide (a .sides) (b .sides))
+sameWorld a b =
+    eqb (a .limit) (b .limit)
+    && (eqb (a .spacing) (b .spacing) && (eqb (a .current) (b .current) && sameList sameSide (a .sides) (b .sides)))

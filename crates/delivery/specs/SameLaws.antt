@@ -166,7 +166,9 @@ sides-at (x ∷ xs) (y ∷ ys) (suc w) h = sides-at xs ys w (and-right (sameSide
 pub sameWorld-itself : (wd : World) → sameWorld wd wd ≡ true
 unfolding sameWorld
 sameWorld-itself wd =
-    and-intro (numbers .itself (wd .limit)) (and-intro (numbers .itself (wd .current)) (itself-list sameSide sameSide-itself (wd .sides)))
+    and-intro (numbers .itself (wd .limit))
+    (and-intro (numbers .itself (wd .spacing))
+    (and-intro (numbers .itself (wd .current)) (itself-list sameSide sameSide-itself (wd .sides))))
 
 -- what looks the same has the same `current`, and at each side the same window, record and lines
 pub record WorldIs (a b : World) : Type 0 where
@@ -176,7 +178,7 @@ pub record WorldIs (a b : World) : Type 0 where
 pub sameWorld-equal : (a b : World) → sameWorld a b ≡ true → WorldIs a b
 unfolding sameWorld
 sameWorld-equal a b h =
-    let rest = and-right (eqb (a .limit) (b .limit)) _ h in
+    let rest = and-right (eqb (a .spacing) (b .spacing)) _ (and-right (eqb (a .limit) (b .limit)) _ h) in
     record {
       current = eqb-true _ _ (and-left _ _ rest);
       sides = λ w. sameSide-equal _ _ (sides-at (a .sides) (b .sides) w (and-right (eqb (a .current) (b .current)) _ rest));

@@ -1,13 +1,15 @@
 -- Demand 3, stated. The file imports definitions alone. Document 01's words, section "Whole runs", stand beside each part.
 use Prim.Native.Nat.{ℕ, suc, _+_, _*_, _≤_, _<_}
 use mathlib.Core.Path.{_≡_}
-use mathlib.Core.List.{List, [], _∷_}
-use mathlib.Core.Bool.{Bool, true, false, cond}
+use mathlib.Core.List.{List, [], _∷_, map}
+use mathlib.Core.Bool.{Bool, true, false, cond, _&&_, _||_}
 use lib.ListN.{length, replicate, take}
 use lib.Dec.{eqb}
 use Rattle.journal.specs.declared.Entry.{Entry}
-use Rattle.journal.specs.Entry.{numbersOf}
-use Rattle.journal.specs.Own.{own}
+use Rattle.journal.specs.Entry.{Placed, numbersOf}
+use Rattle.journal.specs.Own.{own, isOwn, ownOf}
+use Rattle.lists.specs.All.{all}
+use Rattle.lists.specs.Elem.{lastOr}
 use Rattle.record.specs.Record.{newRecord, takeAll}
 use Rattle.rules.specs.View.{PlayerView}
 use Rattle.rules.specs.Window.{Report}
@@ -33,7 +35,7 @@ begins (ack w) r = false
 begins (late-ack w t i) r = false
 begins (drop w) r = isDone r
 begins (join w) r = isDone r
-begins (start b silent) r = isDone r
+begins (start b e silent) r = isDone r
 begins (append e) r = isDone r
 
 -- The number of steps since the last fault or append that changed something: the player's state, a record or a line differs after it.
@@ -55,7 +57,7 @@ joinedBy w (ack v) r b = b
 joinedBy w (late-ack v t i) r b = b
 joinedBy w (drop v) r b = cond (isDone r) (cond (eqb v w) false b) b
 joinedBy w (join v) r b = cond (isDone r) (cond (eqb v w) true b) b
-joinedBy w (start l silent) r b = cond (isDone r) (speaks silent w) b
+joinedBy w (start l e silent) r b = cond (isDone r) (speaks silent w) b
 joinedBy w (append e) r b = b
 
 -- whether window w is joined after the list, where it was or was not before
@@ -74,42 +76,53 @@ isWork (ack w) = true
 isWork (late-ack w t i) = true
 isWork (drop w) = false
 isWork (join w) = false
-isWork (start b silent) = false
+isWork (start b e silent) = false
 isWork (append e) = false
 
 -- "None can": no Main, Catch, Send, Written, Take or Ack that the list might go on with would change anything
 abbrev pub NoneCan : World → Type 0
 NoneCan wd = (s : Step) → isWork s ≡ true → sameWorld wd (step s wd .world) ≡ true
 
--- What it has taken is the list of entries lent to its Takes that were answered 0. If these are k, the list equals the first k of its own
--- entries, and the record equals what Take makes of a new record lent those k from the journal, one after another.
+-- Document 02, W5: kind NOTE, with set, race and value 0
+abbrev pub isTick : Placed → Bool
+isTick x = eqb (x .entry .set) 0 && (eqb (x .entry .kind) 4 && (eqb (x .entry .race) 0 && eqb (x .entry .value) 0))
+
+-- What it has taken is the list of entries lent to its Takes that were answered 0. Some are its own, the others ticks. Read without ticks,
+-- if these are k, the list equals the first k of its own entries. The record equals what Take makes of a new record lent the whole list,
+-- ticks and all, one after another: its races are what those k from the journal give, its count is the number of all that was taken, and
+-- its last the index of the last of it.
 pub record Leading (j : List Entry) (w : ℕ) (p : Side) : Type 0 where
   pub k : ℕ
-  pub list : p .taken ≡ take k (own j w)
-  pub folded : p .record′ ≡ takeAll (take k (own j w)) newRecord
+  pub list : ownOf w (p .taken) ≡ take k (own j w)
+  pub others : all (λ x. isOwn w x || isTick x) (p .taken) ≡ true
+  pub folded : p .record′ ≡ takeAll (p .taken) newRecord
+  pub races : p .record′ .races ≡ takeAll (take k (own j w)) newRecord .races
+  pub count : p .record′ .count ≡ length (p .taken)
+  pub last : p .record′ .last .0 ≡ lastOr 0 (map (λ x. x .index) (p .taken))
 
 -- the three results, for W windows, the set of those silent at the first Start, the world after it, and a list of steps from there
 pub record Delivers (count silent : ℕ) (wd : World) (steps : List Step) : Type 0 where
-  -- every window has taken a leading part of its own entries, once each and in order
+  -- every window has taken a leading part of its own entries, once each and in order, and ticks among them
   pub leading : (w : ℕ) → w < count → Leading (run wd steps .journal) w (sideAt w (run wd steps))
   -- with all windows joined, at most L × (1 + 5 × W) steps since the last fault or append changed anything
   pub bound : ((w : ℕ) → w < count → joinedAfter w (speaks silent w) wd steps ≡ true) →
       changes 0 wd steps ≤ length (run wd steps .journal) * (1 + 5 * count)
   -- with all windows joined, when none can, every window has taken all of its own entries
   pub finish : ((w : ℕ) → w < count → joinedAfter w (speaks silent w) wd steps ≡ true) → NoneCan (run wd steps) →
-      (w : ℕ) → w < count → sideAt w (run wd steps) .taken ≡ own (run wd steps .journal) w
+      (w : ℕ) → w < count → ownOf w (sideAt w (run wd steps) .taken) ≡ own (run wd steps .journal) w
 
 -- What new windows say to a Start: each that is not silent has a new record's last index, 0, as its report.
 abbrev pub newReports : ℕ → ℕ → List Report
 newReports silent count = said silent (replicate count 0)
 
--- The first Start: W new windows and a batch limit; whatever the player held before.
-abbrev pub firstStart : PlayerView → List Entry → (count limit silent : ℕ) → Outcome
-firstStart before j count limit silent = startRule (numbersOf j) count limit (newReports silent count) before
+-- The first Start: W new windows, a batch limit and a spacing; whatever the player held before.
+abbrev pub firstStart : PlayerView → List Entry → (count limit spacing silent : ℕ) → Outcome
+firstStart before j count limit spacing silent = startRule (numbersOf j) count limit spacing (newReports silent count) before
 
--- Demand 3. The list starts from new windows, empty lines, any journal and a Start answered 0. W, the batch limit, the silent windows, the
--- journal and the list are any that this Start takes.
+-- Demand 3. The list starts from new windows, empty lines, any journal and a Start answered 0. W, the batch limit, the spacing, the silent
+-- windows, the journal and the list are any that this Start takes.
 abbrev pub Demand3 : Type 0
 Demand3 =
-    (before : PlayerView) (j : List Entry) (count limit silent : ℕ) (steps : List Step) →
-    firstStart before j count limit silent .answer ≡ 0 → Delivers count silent (opened j (firstStart before j count limit silent)) steps
+    (before : PlayerView) (j : List Entry) (count limit spacing silent : ℕ) (steps : List Step) →
+    firstStart before j count limit spacing silent .answer ≡ 0 →
+    Delivers count silent (opened j (firstStart before j count limit spacing silent)) steps

@@ -15,7 +15,7 @@ use Rattle.rules.specs.View.{WindowView, PlayerView}
 use Rattle.rules.specs.Shape.{shape}
 use Rattle.rules.specs.Rules.{Outcome, withWindow, catchRule, writtenRule, ackRule, dropRule}
 use Rattle.rules.specs.Offers.{Effect, LawfulRule, catchEffect, catchRule-lawful, writtenEffect, writtenRule-lawful, ackRule-lawful, dropEffect, dropRule-lawful}
-use Rattle.delivery.specs.World.{Side, World, noSide, sideAt, numbersIn, playerIn, withView, withPlayer, withSide, Step, catch, written, late-ack, drop, Reply, answered, unmade, called, calledThen, step}
+use Rattle.delivery.specs.World.{Side, World, noSide, sideAt, numbersIn, playerIn, withView, withPlayer, withSides, withSide, Step, catch, written, late-ack, drop, Reply, answered, unmade, called, calledThen, step}
 use Rattle.delivery.specs.World as W
 use Rattle.delivery.specs.Statement.{isDone, begins}
 use Rattle.delivery.specs.Worlds.{entries-in, window-in, windows-in, withPlayer-same, withPlayer-window, withSide-here, withSide-twice, withSide-player}
@@ -68,7 +68,7 @@ within-in wd w h = omega (arith, windows-in wd)
 
 withSide-same : (w : ℕ) (wd : World) → withSide w (sideAt w wd) wd ≡ wd
 withSide-same w wd =
-    ap (λ ps. record { journal = wd .journal; limit = wd .limit; current = wd .current; sides = ps }) (set-getD (wd .sides) w noSide)
+    ap (λ ps. withSides ps wd) (set-getD (wd .sides) w noSide)
 
 -- the player is in shape after an operation at a window, whatever else changes at its side
 pub shape-after : (wd : World) (w : ℕ) (q : PlayerView) (v : WindowView) (p′ : Side) (wd′ : World) → q ≡ withWindow w v (playerIn wd) →

@@ -15,17 +15,13 @@ use Rattle.rules.specs.Shape.{shape}
 use Rattle.rules.specs.Window.{mainAt, Report, silence, startedBy}
 use Rattle.rules.specs.Rules.{Outcome, windowAt, mainRule, saidBy, said, startRule}
 use Rattle.rules.specs.Offers.{mainRule-done, mainRule-refuses, mainNext-at, mainRule-count, startRule-done, startRule-refuses, startNext-at, said-at, least-le, main-shaped, start-shaped}
-use Rattle.delivery.specs.World.{Side, World, noSide, sideAt, numbersIn, playerIn, withView, withViews, withPlayer, Step, main, catch, written, send, ack, late-ack, drop, join, start, append, unmade, cleared, reportsIn, step}
+use Rattle.delivery.specs.World.{Side, World, noSide, sideAt, numbersIn, playerIn, withView, withViews, withPlayer, Step, main, catch, written, send, ack, late-ack, drop, join, start, append, unmade, cleared, clearedAll, reportsIn, step}
 use Rattle.delivery.specs.World as W
 use Rattle.delivery.specs.Invariant.{lastOf}
-use Rattle.delivery.specs.Worlds.{entries-in, count-in, window-in, windows-in, withViews-length, withViews-at, withPlayer-player}
+use Rattle.delivery.specs.Worlds.{entries-in, count-in, window-in, windows-in, withWindows, withViews-length, withViews-at, withPlayer-player}
 use Rattle.delivery.specs.Effects.{Mained, mains, Restarted, Facts, working, starting, appending}
 use Rattle.delivery.specs.Stepped.{calledThen-done, called-then, call-either, idle-facts, facts-catch, facts-written, facts-late, facts-drop}
 use Rattle.delivery.specs.SteppedLine.{facts-join, facts-send, facts-ack, facts-take}
-
--- every line emptied
-abbrev clearedAll : World → World
-clearedAll wd = record { journal = wd .journal; limit = wd .limit; current = wd .current; sides = map cleared (wd .sides) }
 
 module _ (wd : World) (shaped : shape (numbersIn wd) (playerIn wd) ≡ true) where
   -- ------------------------------------------------------------------------
@@ -48,8 +44,8 @@ module _ (wd : World) (shaped : shape (numbersIn wd) (playerIn wd) ≡ true) whe
             ∙ ap (λ v. withView v (sideAt w wd))
             (ap (windowAt w) (d .next)
             ∙ mainNext-at (numbersIn wd) i (playerIn wd) w
-            ∙ ap₂ (λ j v. mainAt j w i v) (entries-in wd) (window-in w wd)
-            ∙ ap (λ i. mainAt (wd .journal) w i (sideAt w wd .view)) i≡);
+            ∙ ap₂ (λ j v. mainAt j w (wd .spacing) i v) (entries-in wd) (window-in w wd)
+            ∙ ap (λ i. mainAt (wd .journal) w (wd .spacing) i (sideAt w wd .view)) i≡);
         shaped = ap (shape (numbersIn wd)) (withPlayer-player wd (o .next) n) ∙ main-shaped (numbersIn wd) i (playerIn wd) shaped;
       }
 
@@ -74,16 +70,16 @@ module _ (wd : World) (shaped : shape (numbersIn wd) (playerIn wd) ≡ true) whe
   said-in silent w h =
       said-at silent (reportsIn wd) w (omega (arith, length-map (wd .sides) lastOf)) ∙ ap (saidBy silent w) (report-in w)
 
-  restarted : (b silent : ℕ) →
-      startRule (numbersIn wd) (length (wd .sides)) b (said silent (reportsIn wd)) (playerIn wd) .answer ≡ 0 →
-      Restarted silent wd (step (start b silent) wd .world)
+  restarted : (b spacing silent : ℕ) →
+      startRule (numbersIn wd) (length (wd .sides)) b spacing (said silent (reportsIn wd)) (playerIn wd) .answer ≡ 0 →
+      Restarted silent wd (step (start b spacing silent) wd .world)
   unfolding step withPlayer
-  restarted b silent e =
+  restarted b spacing silent e =
       let rs : List Report = said silent (reportsIn wd) in
       let l : ℕ = countOf (numbersIn wd) in
-      let o : Outcome = startRule (numbersIn wd) (length (wd .sides)) b rs (playerIn wd) in
-      let d = startRule-done (numbersIn wd) (length (wd .sides)) b rs (playerIn wd) e in
-      let is : step (start b silent) wd .world ≡ clearedAll (withPlayer (o .next) wd) = calledThen-done o clearedAll wd e in
+      let o : Outcome = startRule (numbersIn wd) (length (wd .sides)) b spacing rs (playerIn wd) in
+      let d = startRule-done (numbersIn wd) (length (wd .sides)) b spacing rs (playerIn wd) e in
+      let is : step (start b spacing silent) wd .world ≡ clearedAll (withPlayer (o .next) wd) = calledThen-done o clearedAll wd e in
       let n : length (o .next .windows) ≡ length (wd .sides) = d .windows in
       subst⁻¹ (Restarted silent wd) is
       (record {
@@ -98,22 +94,22 @@ module _ (wd : World) (shaped : shape (numbersIn wd) (playerIn wd) ≡ true) whe
             (withViews-at (o .next .windows) (wd .sides) w n h
             ∙ ap (λ v. withView v (sideAt w wd))
             (ap (windowAt w) (d .next)
-            ∙ startNext-at l b rs w (omega (arith, d .given .each))
+            ∙ startNext-at l b spacing rs w (omega (arith, d .given .each))
             ∙ ap₂ startedBy (count-in wd) (said-in silent w h)));
         shaped =
-            ap (λ vs. shape (numbersIn wd) (record { limit = o .next .limit; current = o .next .current; windows = vs }))
+            ap (λ vs. shape (numbersIn wd) (withWindows (o .next) vs))
             (views-cleared (withViews (o .next .windows) (wd .sides)))
             ∙ ap (shape (numbersIn wd)) (withPlayer-player wd (o .next) n)
-            ∙ start-shaped (numbersIn wd) (length (wd .sides)) b rs (playerIn wd) e;
+            ∙ start-shaped (numbersIn wd) (length (wd .sides)) b spacing rs (playerIn wd) e;
       })
 
-  facts-start : (b silent : ℕ) → Facts (start b silent) wd
+  facts-start : (b spacing silent : ℕ) → Facts (start b spacing silent) wd
   unfolding step
-  facts-start b silent =
+  facts-start b spacing silent =
       let rs : List Report = said silent (reportsIn wd) in
-      call-either wd (start b silent) (startRule (numbersIn wd) (length (wd .sides)) b rs (playerIn wd)) clearedAll refl (ne-eqb _ 0)
-      (startRule-refuses (numbersIn wd) (length (wd .sides)) b rs (playerIn wd))
-      (λ e. starting b silent refl (eq-eqb _ 0 e) (restarted b silent e))
+      call-either wd (start b spacing silent) (startRule (numbersIn wd) (length (wd .sides)) b spacing rs (playerIn wd)) clearedAll refl
+      (ne-eqb _ 0) (startRule-refuses (numbersIn wd) (length (wd .sides)) b spacing rs (playerIn wd))
+      (λ e. starting b spacing silent refl (eq-eqb _ 0 e) (restarted b spacing silent e))
 
   -- ------------------------------------------------------------------------
   -- An append
@@ -141,5 +137,5 @@ module _ (wd : World) (shaped : shape (numbersIn wd) (playerIn wd) ≡ true) whe
   step-facts (late-ack w t i) = facts-late wd shaped w t i
   step-facts (drop w) = facts-drop wd shaped w
   step-facts (join w) = facts-join wd shaped w
-  step-facts (start b silent) = facts-start b silent
+  step-facts (start b spacing silent) = facts-start b spacing silent
   step-facts (append e) = facts-append e

@@ -24,7 +24,7 @@ module _ (wd : World) (shaped : shape (numbersIn wd) (playerIn wd) ≡ true) whe
   -- Join
 
   join-call : (w : ℕ) →
-      CallAt (join w) wd w (joinRule (numbersIn wd) w (lastOf (sideAt w wd)) (playerIn wd)) (joinEffect w (wd .current) (lastOf (sideAt w wd))) cleared
+      CallAt (join w) wd w (joinRule (numbersIn wd) w (lastOf (sideAt w wd)) (playerIn wd)) (joinEffect (wd .current) (lastOf (sideAt w wd))) cleared
   unfolding step
   join-call w =
       record {
@@ -46,7 +46,7 @@ module _ (wd : World) (shaped : shape (numbersIn wd) (playerIn wd) ≡ true) whe
 
   -- the batch put on the line
   batchPut : ℕ → Side → Side
-  batchPut w p = withLines (p .line ++ onLine (wd .journal) (sideAt w wd .view .term) (batchOf (wd .limit) (sideAt w wd .view) .indices)) (p .back) p
+  batchPut w p = withLines (p .line ++ onLine (wd .journal) w (sideAt w wd .view .term) (batchOf (wd .limit) (sideAt w wd .view) .indices)) (p .back) p
 
   send-call : (w : ℕ) (out : List ℕ) →
       CallAt (send w out) wd w (sendRule (numbersIn wd) w (length out) (playerIn wd)) (sendEffect (wd .limit) (length out)) (batchPut w)
@@ -58,7 +58,7 @@ module _ (wd : World) (shaped : shape (numbersIn wd) (playerIn wd) ≡ true) whe
         calls = refl;
         here = λ x.
             let p : Side = sideAt w x in
-            ap (λ v. withSide w (withLines (p .line ++ onLine (wd .journal) (sideAt w wd .view .term) (batchOf (wd .limit) v .indices)) (p .back) p) x)
+            ap (λ v. withSide w (withLines (p .line ++ onLine (wd .journal) w (sideAt w wd .view .term) (batchOf (wd .limit) v .indices)) (p .back) p) x)
             (window-in w wd);
         views = λ p. refl;
       }
@@ -78,7 +78,7 @@ module _ (wd : World) (shaped : shape (numbersIn wd) (playerIn wd) ≡ true) whe
   ack-line w b h front = simp (lt-ltb w (length (wd .sides)) h) (ap (λ b. ackAtLine w b wd) front)
 
   ack-call : (w : ℕ) (a : Ack) (rest : List Ack) → w < length (wd .sides) → sideAt w wd .back ≡ a ∷ rest →
-      CallAt (ack w) wd w (ackRule (numbersIn wd) w (a .term) (a .index) (playerIn wd)) (ackEffect w (a .term) (a .index))
+      CallAt (ack w) wd w (ackRule (numbersIn wd) w (a .term) (a .index) (playerIn wd)) (ackEffect (a .term) (a .index))
       (λ p. withLines (p .line) rest p)
   ack-call w a rest h front =
       record {

@@ -1,26 +1,26 @@
--- Document 01, "Whole runs", with document 02's acks (W1) and silent windows (W3): a world of journal, player, windows and lines, and what
--- each step makes of it.
+-- Document 01, "Whole runs", with document 02's acks (W1), silent windows (W3) and ticks (W5): a world of journal, player, windows and
+-- lines, and what each step makes of it.
 use Prim.Native.Nat.{ℕ}
 use mathlib.Core.List.{List, [], _∷_, _++_, map}
 use mathlib.Core.Bool.{Bool, true, false, cond, _||_}
 use lib.ListN.{length, getD, set}
 use lib.Dec.{leb, ltb, eqb}
 use Rattle.journal.specs.declared.Entry.{Entry}
-use Rattle.journal.specs.Entry.{Placed, numbersOf, placedAt, fiveOf}
+use Rattle.journal.specs.Entry.{Placed, numbersOf, fiveOf}
 use Rattle.record.specs.declared.Record.{Record}
 use Rattle.record.specs.Record.{newRecord, takeNumbers}
 use Rattle.record.specs.Record as Take
 use Rattle.rules.specs.declared.Term.{Term}
 use Rattle.rules.specs.View.{WindowView, noWindow, PlayerView}
-use Rattle.rules.specs.Rules.{Outcome, mainRule, catchRule, writtenRule, ackRule, dropRule, joinRule, sendRule, batchAt, said, startRule}
+use Rattle.rules.specs.Rules.{Outcome, mainRule, catchRule, writtenRule, ackRule, dropRule, joinRule, sendRule, sentFor, batchAt, said, startRule}
 
--- an entry on its way to a window, with the term of its batch and whether it is the batch's last
+-- an entry or a tick on its way to a window, with the term of its batch and whether it is the batch's last
 pub record Sent : Type 0 where
   pub placed : Placed
   pub term : Term
   pub ends : Bool
 
--- an ack on its way back: the index of an entry that was taken, and the term of its batch
+-- an ack on its way back: an index that was taken, and the term of its batch
 pub record Ack : Type 0 where
   pub term : Term
   pub index : ℕ
@@ -36,6 +36,7 @@ pub record Side : Type 0 where
 pub record World : Type 0 where
   pub journal : List Entry
   pub limit : ℕ
+  pub spacing : ℕ
   pub current : ℕ
   pub sides : List Side
 
@@ -50,7 +51,7 @@ abbrev pub numbersIn : World → List ℕ
 numbersIn wd = numbersOf (wd .journal)
 
 abbrev pub playerIn : World → PlayerView
-playerIn wd = record { limit = wd .limit; current = wd .current; windows = map (λ p. p .view) (wd .sides) }
+playerIn wd = record { limit = wd .limit; spacing = wd .spacing; current = wd .current; windows = map (λ p. p .view) (wd .sides) }
 
 -- ------------------------------------------------------------------------
 -- Parts of a world replaced
@@ -68,19 +69,31 @@ withViews (v ∷ vs) (p ∷ ps) = withView v p ∷ withViews vs ps
 
 -- the world with the player as a rule leaves it
 unfoldable pub withPlayer : PlayerView → World → World
-withPlayer p wd = record { journal = wd .journal; limit = p .limit; current = p .current; sides = withViews (p .windows) (wd .sides) }
+withPlayer p wd = record {
+  journal = wd .journal;
+  limit = p .limit;
+  spacing = p .spacing;
+  current = p .current;
+  sides = withViews (p .windows) (wd .sides);
+}
+
+abbrev pub withSides : List Side → World → World
+withSides ps wd = record { journal = wd .journal; limit = wd .limit; spacing = wd .spacing; current = wd .current; sides = ps }
+
+abbrev pub withJournal : List Entry → World → World
+withJournal j wd = record { journal = j; limit = wd .limit; spacing = wd .spacing; current = wd .current; sides = wd .sides }
 
 abbrev pub withSide : ℕ → Side → World → World
-withSide w p wd = record { journal = wd .journal; limit = wd .limit; current = wd .current; sides = set (wd .sides) w p }
+withSide w p wd = withSides (set (wd .sides) w p) wd
 
 -- ------------------------------------------------------------------------
 -- The lines
 
--- a batch on the line: its entries with its term, the last marked
-unfoldable pub onLine : List Entry → Term → List ℕ → List Sent
-onLine j t [] = []
-onLine j t (i ∷ []) = record { placed = placedAt j i; term = t; ends = true } ∷ []
-onLine j t (i ∷ k ∷ is) = record { placed = placedAt j i; term = t; ends = false } ∷ onLine j t (k ∷ is)
+-- a batch on window w's line: what goes out for each index, with the batch's term, the last marked
+unfoldable pub onLine : List Entry → ℕ → Term → List ℕ → List Sent
+onLine j w t [] = []
+onLine j w t (i ∷ []) = record { placed = sentFor j w i; term = t; ends = true } ∷ []
+onLine j w t (i ∷ k ∷ is) = record { placed = sentFor j w i; term = t; ends = false } ∷ onLine j w t (k ∷ is)
 
 -- Take is lent the front entry and removes it. Where it `acks`, and always where the entry is the last of its batch, it puts an ack on the
 -- way back
@@ -98,7 +111,7 @@ takeFront acks s rest p =
 -- ------------------------------------------------------------------------
 -- Steps
 
--- A Take says whether it acks an entry that is not the last of its batch. A Start has a batch limit and a set of silent windows.
+-- A Take says whether it acks an entry that is not the last of its batch. A Start has a batch limit, a spacing and a set of silent windows.
 pub data Step : Type 0 where
   main : ℕ → Step
   catch : ℕ → Term → ℕ → Step
@@ -109,10 +122,10 @@ pub data Step : Type 0 where
   late-ack : ℕ → Term → ℕ → Step
   drop : ℕ → Step
   join : ℕ → Step
-  start : (limit silent : ℕ) → Step
+  start : (limit spacing silent : ℕ) → Step
   append : Entry → Step
 
--- document 01's number; or a Take or an Ack from an empty line; or a step that is not made: a late ack of a term that is not older, an
+-- the papers' number; or a Take or an Ack from an empty line; or a step that is not made: a late ack of a term that is not older, an
 -- append past 65,535 entries
 pub data Reply : Type 0 where
   answered : ℕ → Reply
@@ -141,7 +154,8 @@ calledThen o f wd = record {
 abbrev pub launch : ℕ → World → World → World
 launch w before wd =
     let p : Side = sideAt w wd in
-    withSide w (withLines (p .line ++ onLine (before .journal) (sideAt w before .view .term) (batchAt w (playerIn before))) (p .back) p) wd
+    let batch : List Sent = onLine (before .journal) w (sideAt w before .view .term) (batchAt w (playerIn before)) in
+    withSide w (withLines (p .line ++ batch) (p .back) p) wd
 
 abbrev pub takeAtLine : ℕ → Bool → List Sent → World → Stepped
 takeAtLine w acks [] wd = stays empty wd
@@ -160,6 +174,10 @@ ackAtLine w (a ∷ rest) wd =
 -- both ways of a line emptied
 abbrev pub cleared : Side → Side
 cleared p = withLines [] [] p
+
+-- of every line
+abbrev pub clearedAll : World → World
+clearedAll wd = withSides (map cleared (wd .sides)) wd
 
 -- the reports for Start, which gets those of the windows that are not silent: the last index of each window's record
 abbrev pub reportsIn : World → List ℕ
@@ -180,12 +198,11 @@ step (drop w) wd = called (dropRule (numbersIn wd) w (playerIn wd)) wd
 step (join w) wd =
     calledThen (joinRule (numbersIn wd) w (sideAt w wd .record′ .last .0) (playerIn wd))
     (λ wd′. withSide w (cleared (sideAt w wd′)) wd′) wd
-step (start b silent) wd =
-    calledThen (startRule (numbersIn wd) (length (wd .sides)) b (said silent (reportsIn wd)) (playerIn wd))
-    (λ wd′. record { journal = wd′ .journal; limit = wd′ .limit; current = wd′ .current; sides = map cleared (wd′ .sides) }) wd
+step (start b e silent) wd =
+    calledThen (startRule (numbersIn wd) (length (wd .sides)) b e (said silent (reportsIn wd)) (playerIn wd)) clearedAll wd
 step (append e) wd =
     cond (ltb (length (wd .journal)) 65535)
-    (stays (answered 0) (record { journal = wd .journal ++ (e ∷ []); limit = wd .limit; current = wd .current; sides = wd .sides }))
+    (stays (answered 0) (withJournal (wd .journal ++ (e ∷ [])) wd))
     (stays unmade wd)
 
 -- the world after a list of steps
@@ -206,4 +223,10 @@ newSide v = record { view = v; record′ = newRecord; line = []; back = []; take
 
 -- the world after a first Start
 unfoldable pub opened : List Entry → Outcome → World
-opened j o = record { journal = j; limit = o .next .limit; current = o .next .current; sides = map newSide (o .next .windows) }
+opened j o = record {
+  journal = j;
+  limit = o .next .limit;
+  spacing = o .next .spacing;
+  current = o .next .current;
+  sides = map newSide (o .next .windows);
+}

@@ -10,7 +10,7 @@ use Rattle.journal.specs.EntryLaws.{entriesOf-length, entriesOf-numbersOf}
 use Rattle.lists.specs.Set.{map-set}
 use Rattle.rules.specs.View.{WindowView, noWindow, PlayerView}
 use Rattle.rules.specs.Rules.{windowAt, withWindow}
-use Rattle.delivery.specs.World.{Side, World, noSide, sideAt, numbersIn, playerIn, withView, withViews, withPlayer, withSide}
+use Rattle.delivery.specs.World.{Side, World, noSide, sideAt, numbersIn, playerIn, withView, withViews, withPlayer, withSides, withSide}
 
 -- ------------------------------------------------------------------------
 -- the journal in a world
@@ -33,12 +33,9 @@ windows-in wd = length-map (wd .sides) (λ p. p .view)
 -- ------------------------------------------------------------------------
 -- withViews, withPlayer
 
--- a world with other sides, a player with other windows
-abbrev withSides : World → List Side → World
-withSides wd ps = record { journal = wd .journal; limit = wd .limit; current = wd .current; sides = ps }
-
-abbrev withWindows : PlayerView → List WindowView → PlayerView
-withWindows q vs = record { limit = q .limit; current = q .current; windows = vs }
+-- a player with other windows
+abbrev pub withWindows : PlayerView → List WindowView → PlayerView
+withWindows q vs = record { limit = q .limit; spacing = q .spacing; current = q .current; windows = vs }
 
 withViews-same : (ps : List Side) → withViews (map (λ p. p .view) ps) ps ≡ ps
 unfolding withViews
@@ -78,14 +75,14 @@ withViews-views (v ∷ vs) (p ∷ ps) e = ap (λ l. v ∷ l) (withViews-views vs
 pub withPlayer-same : (wd : World) (q : PlayerView) → q ≡ playerIn wd → withPlayer q wd ≡ wd
 unfolding withPlayer
 withPlayer-same wd q e =
-    ap (λ q. withPlayer q wd) e ∙ ap (withSides wd) (withViews-same (wd .sides))
+    ap (λ q. withPlayer q wd) e ∙ ap (λ ps. withSides ps wd) (withViews-same (wd .sides))
 
 -- a turn of window w
 pub withPlayer-window : (wd : World) (q : PlayerView) (w : ℕ) (v : WindowView) → q ≡ withWindow w v (playerIn wd) →
     withPlayer q wd ≡ withSide w (withView v (sideAt w wd)) wd
 unfolding withPlayer
 withPlayer-window wd q w v e =
-    ap (λ q. withPlayer q wd) e ∙ ap (withSides wd) (withViews-set (wd .sides) w v)
+    ap (λ q. withPlayer q wd) e ∙ ap (λ ps. withSides ps wd) (withViews-set (wd .sides) w v)
 
 -- the player that a rule leaves is then the player in the world
 pub withPlayer-player : (wd : World) (q : PlayerView) → length (q .windows) ≡ length (wd .sides) → playerIn (withPlayer q wd) ≡ q
@@ -106,7 +103,7 @@ pub withSide-player : (w : ℕ) (p : Side) (wd : World) → playerIn (withSide w
 withSide-player w p wd = ap (withWindows (playerIn wd)) (map-set (λ p. p .view) (wd .sides) w p)
 
 pub withSide-twice : (w : ℕ) (a b : Side) (wd : World) → withSide w b (withSide w a wd) ≡ withSide w b wd
-withSide-twice w a b wd = ap (withSides wd) (set-set (wd .sides) w a b)
+withSide-twice w a b wd = ap (λ ps. withSides ps wd) (set-set (wd .sides) w a b)
 
 -- the window that was there changes nothing
 pub withWindow-same : (w : ℕ) (wd : World) → withWindow w (sideAt w wd .view) (playerIn wd) ≡ playerIn wd

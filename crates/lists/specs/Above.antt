@@ -9,7 +9,7 @@ use borrow.Author.Tests.{lt-ltb, le-ltb, eqb-true}
 use lib.ListN.{length, drop}
 use lib.Dec.{ltb, eqb}
 use Rattle.lists.specs.Cases.{and-left, and-right, and-intro, le-or-lt}
-use Rattle.lists.specs.Elem.{elem}
+use Rattle.lists.specs.Elem.{elem, lastOr}
 use Rattle.lists.specs.All.{all}
 use Rattle.lists.specs.Rising.{Rising}
 
@@ -79,6 +79,16 @@ above-whole a b i (x ∷ xs) h r =
 pub above-first : (a b i : ℕ) (xs : List ℕ) → Rising a (i ∷ xs) b → above i (i ∷ xs) ≡ xs
 unfolding above
 above-first a b i xs r = rw (le-ltb i i (omega arith)) (above-whole i b i xs (omega arith) (r .2))
+
+-- where the last of it is b, or there is none and b is the lower bound, so it is of what is left, for a bound i of at most b
+pub above-last : (a b i : ℕ) (xs : List ℕ) → i ≤ b → Rising a xs b → lastOr a xs ≡ b → a ≤ i → lastOr i (above i xs) ≡ b
+unfolding above
+above-last a b i [] h r e low = omega arith
+above-last a b i (x ∷ xs) h r e low =
+    ⊎-elim
+    (λ (under : x ≤ i). rw (le-ltb i x under) (above-last x b i xs h (r .2) e under))
+    (λ (over : i < x). rw (lt-ltb i x over) (ap (lastOr x) (above-whole x b i xs (omega arith) (r .2)) ∙ e))
+    (le-or-lt x i)
 
 -- A result to be read: what is left is the last part of the list, so a cut at a place would do
 pub above-cut : (a b i : ℕ) (xs : List ℕ) → Rising a xs b → (k : ℕ) × (above i xs ≡ drop k xs)

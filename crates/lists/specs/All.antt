@@ -35,6 +35,11 @@ module _ {A : Type 0} where
   all-append p [] ys = refl
   all-append p (x ∷ xs) ys = rw (all-append p xs ys, and-assoc)
 
+  -- one more at the end
+  pub all-more : (p : A → Bool) (xs : List A) (x : A) → all p xs ≡ true → p x ≡ true → all p (xs ++ (x ∷ [])) ≡ true
+  unfolding all
+  all-more p xs x each one = rw (all-append p xs (x ∷ [])) (and-intro each (and-intro one refl))
+
   pub all-cong : (p q : A → Bool) → ((x : A) → p x ≡ q x) → (xs : List A) → all p xs ≡ all q xs
   unfolding all
   all-cong p q e [] = refl

@@ -21,9 +21,6 @@ lastOr a (x ∷ xs) = lastOr x xs
 -- ------------------------------------------------------------------------
 -- elem
 
-pub nil-cons : (x : ℕ) (xs : List ℕ) → [] ≡ x ∷ xs → ⊥
-nil-cons x xs e = let z : _≡_ {A = ℕ} 0 1 = cc in omega arith
-
 pub elem-append : (i : ℕ) (xs ys : List ℕ) → elem i (xs ++ ys) ≡ (elem i xs || elem i ys)
 elem-append i [] ys = refl
 elem-append i (x ∷ xs) ys = simp (elem-append i xs ys, or-assoc)

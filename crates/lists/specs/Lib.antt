@@ -11,3 +11,4 @@ pub mod Over
 pub mod Cells
 pub mod Refusal
 pub mod Answer
+pub mod Keep

@@ -12,6 +12,9 @@ ghost use Prim.Native.Nat.{_≤_, _<_};
 // More turns than serving a window takes. A proved loop has to end, so it counts its turns up to a number that no run comes to.
 const TURNS: u64 = u64::MAX;
 
+// The spacing of ticks: a window that has no entry of its own for so long gets a tick, so that a start does not begin far back.
+const SPACING: u32 = 1000;
+
 // The player, a record for each window, and what the host counts.
 pub(crate) struct Host {
     player: Player,
@@ -27,12 +30,14 @@ impl Host {
         let fresh = Player {
             count: windows,
             limit,
+            spacing: SPACING,
             current: Index(0),
             windows: [Window::started(Index(0)); 16],
         };
         let reports = [0; 16];
         let count = windows as usize;
-        let started = operations::start_on(fresh, journal, windows, limit, &reports[0..count], 0);
+        let told = &reports[0..count];
+        let started = operations::start_on(fresh, journal, windows, limit, SPACING, told, 0);
         let player = started.player;
         let answer = started.answer;
         Host {

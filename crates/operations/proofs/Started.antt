@@ -7,17 +7,18 @@ use native.Mathlib.Omega.{arith}
 use borrow.Author.Tests.{leb-true, eqb-true}
 use lib.ListN.{length}
 use lib.Dec.{leb}
-use Rattle.journal.specs.Entry.{inShape, countOf, entriesOf}
-use Rattle.journal.specs.EntryLaws.{inShape-entries, entriesOf-length}
+use Rattle.journal.specs.Entry.{inShape, countOf}
+use Rattle.journal.specs.EntryLaws.{inShape-entries}
+use Rattle.lists.specs.All.{all}
 use Rattle.lists.specs.Cases.{and-left, and-right}
 use Rattle.window.specs.declared.Answer.{Answer}
-use Rattle.window.specs.declared.Answer.the-variants.{Done, OutOfShape, BadReport}
+use Rattle.window.specs.declared.Answer.the-variants.{Done, OutOfShape, BadReport, BadSpacing}
 use Rattle.player.specs.declared.Player.{Player}
 use Rattle.player.specs.View.{playerOf}
-use Rattle.rules.specs.Shape.{countFits, limitFits}
+use Rattle.rules.specs.Shape.{countFits, limitFits, spacingFits}
 use Rattle.rules.specs.Window.{Report}
-use Rattle.rules.specs.Rules.{refuse, areReports, startFits, startRule}
-use Rattle.rules.specs.Offers.{areReports-le}
+use Rattle.rules.specs.Rules.{refuse, isStartReport, startFits, startRule}
+use Rattle.rules.specs.Offers.{reports-le}
 use Rattle.player.specs.Promise.{freshWindows, freshPlayer, Starts}
 use Rattle.window.specs.Promise.{numberOf}
 use Rattle.operations.specs.Starting.{lowest, lowest-least, freshPlayer-shown}
@@ -36,42 +37,48 @@ counted ns count limit n h =
     let high = leb-true count 16 (and-right (leb 1 count) _ a) in
     record { few = omega arith; same = e; entries = inShape-entries ns (and-left (inShape ns) _ b) }
 
-module _ (ns : List ℕ) (count limit : ℕ) (reports : List Report) (p : Player) where
+module _ (ns : List ℕ) (count limit spacing : ℕ) (reports : List Report) (p : Player) where
+  -- what Start promises of an answer beside a player
+  abbrev Gives : Answer → Player → Type 0
+  Gives a r =
+      Starts p (countOf ns) count limit spacing reports (record { answer = a; player = r })
+      (startRule ns count limit spacing reports (playerOf p))
+
   -- a refusal
-  refused : (a : Answer) → startRule ns count limit reports (playerOf p) ≡ refuse (numberOf a) (playerOf p) → (numberOf a ≡ 0 → ⊥) →
-      Starts p (countOf ns) count limit reports (record { answer = a; player = p }) (startRule ns count limit reports (playerOf p))
+  refused : (a : Answer) → startRule ns count limit spacing reports (playerOf p) ≡ refuse (numberOf a) (playerOf p) → (numberOf a ≡ 0 → ⊥) →
+      Gives a p
   refused a e n = rw e (record { answer = refl; next = refl; fresh = λ z. absurd (n z); unchanged = λ h. refl })
 
-  pub start-shapeless : startFits ns count limit (length reports) ≡ false →
-      Starts p (countOf ns) count limit reports (record { answer = OutOfShape; player = p })
-      (startRule ns count limit reports (playerOf p))
+  pub start-shapeless : startFits ns count limit (length reports) ≡ false → Gives OutOfShape p
   unfolding startRule
   start-shapeless h = refused OutOfShape (rw h) (λ z. omega arith)
 
   module _ (h : startFits ns count limit (length reports) ≡ true) where
-    pub start-refused : areReports (entriesOf ns) 0 reports ≡ false →
-        Starts p (countOf ns) count limit reports (record { answer = BadReport; player = p })
-        (startRule ns count limit reports (playerOf p))
+    pub start-unspaced : spacingFits spacing ≡ false → Gives BadSpacing p
     unfolding startRule
-    start-refused b = refused BadReport (rw (h, b)) (λ z. omega arith)
+    start-unspaced s = refused BadSpacing (rw (h, s)) (λ z. omega arith)
 
-    pub start-done : areReports (entriesOf ns) 0 reports ≡ true → (r : Player) → r ≡ freshPlayer (countOf ns) count limit reports →
-        Starts p (countOf ns) count limit reports (record { answer = Done; player = r })
-        (startRule ns count limit reports (playerOf p))
-    unfolding startRule
-    start-done b r e =
-        rw (h, b, e)
-        (record {
-          answer = refl;
-          next = freshPlayer-shown (countOf ns) count limit reports (counted ns count limit _ h .same);
-          fresh = λ z. refl;
-          unchanged = λ x. absurd (x refl);
-        })
+    module _ (s : spacingFits spacing ≡ true) where
+      pub start-refused : all (isStartReport (countOf ns)) reports ≡ false → Gives BadReport p
+      unfolding startRule
+      start-refused b = refused BadReport (rw (h, s, b)) (λ z. omega arith)
+
+      pub start-done : all (isStartReport (countOf ns)) reports ≡ true → (r : Player) → r ≡ freshPlayer (countOf ns) count limit spacing reports →
+          Gives Done r
+      unfolding startRule
+      start-done b r e =
+          rw (h, s, b, e)
+          (record {
+            answer = refl;
+            next = freshPlayer-shown (countOf ns) count limit spacing reports (counted ns count limit _ h .same);
+            fresh = λ z. refl;
+            unchanged = λ x. absurd (x refl);
+          })
 
 -- the player that code makes, from its parts, where the reports are right
-pub started-player : (ns : List ℕ) (r : Player) (reports : List Report) → areReports (entriesOf ns) 0 reports ≡ true →
+pub started-player : (ns : List ℕ) (r : Player) (reports : List Report) → all (isStartReport (countOf ns)) reports ≡ true →
     r .current .0 ≡ lowest (countOf ns) reports → r .windows ≡ freshWindows (countOf ns) reports →
-    r ≡ freshPlayer (countOf ns) (r .count) (r .limit) reports
+    r ≡ freshPlayer (countOf ns) (r .count) (r .limit) (r .spacing) reports
 started-player ns r reports b l w =
-    ap₂ (λ i ws. record { count = r .count; limit = r .limit; current = record { 0 = i }; windows = ws })
-    (l ∙ lowest-least (countOf ns) reports (λ v n e. rw (entriesOf-length ns) at (areReports-le (entriesOf ns) 0 reports b v n e))) w
+    ap₂ (λ i ws. record { count = r .count; limit = r .limit; spacing = r .spacing; current = record { 0 = i }; windows = ws })
+    (l ∙ lowest-least (countOf ns) reports (reports-le (countOf ns) reports b)) w

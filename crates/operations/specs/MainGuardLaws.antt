@@ -6,7 +6,7 @@ use native.Mathlib.Omega.{arith}
 use borrow.Author.Tests.{leb-true, lt-ltb}
 use Rattle.lists.specs.Cases.{and-intro}
 use Rattle.rules.specs.View.{Condition, normal, fetching, completed, suspended, WindowView}
-use Rattle.rules.specs.Shape.{windowShape}
+use Rattle.rules.specs.Shape.{spacingFits, windowShape}
 use Rattle.rules.specs.Offers.{windowShaped}
 use Rattle.window_fill.specs.MainGuard.{endBelow, mainGuard}
 use Rattle.player.specs.InShape.{lengths-shape}
@@ -21,5 +21,7 @@ endBelow-next l current v h (completed end) e =
     lt-ltb end (current + 1) (omega (arith, leb-true end current (rw e at fits)))
 endBelow-next l current v h suspended e = refl
 
-pub mainGuard-shape : (l current : ℕ) (v : WindowView) → windowShape l current v ≡ true → mainGuard (current + 1) v ≡ true
-mainGuard-shape l current v h = and-intro (lengths-shape l current v h) (endBelow-next l current v h (v .condition) refl)
+pub mainGuard-shape : (l current e : ℕ) (v : WindowView) → spacingFits e ≡ true → windowShape l current v ≡ true →
+    mainGuard e (current + 1) v ≡ true
+mainGuard-shape l current e v spaced h =
+    and-intro (lengths-shape l current v h) (and-intro spaced (endBelow-next l current v h (v .condition) refl))

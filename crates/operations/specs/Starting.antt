@@ -7,14 +7,14 @@ use mathlib.Core.List.{List, [], _∷_, _++_, map, map-append, append-assoc}
 use mathlib.Core.Bool.{true, _&&_}
 use lib.ListN.{length, take, drop, getD, set, replicate, drop-of-length-le, length-append, length-map}
 use lib.Seq.{take-suc, length-take-le, drop-cons, set-at}
-use Rattle.journal.specs.declared.Entry.{Entry}
+use Rattle.lists.specs.All.{all}
 use Rattle.window.specs.declared.Window.{Window}
 use Rattle.window.specs.Promise.{freshWindow, windowBy}
 use Rattle.window.specs.Laws.{viewOf-by}
 use Rattle.player.specs.View.{firstWindows, playerOf}
 use Rattle.player.specs.Promise.{freshWindows, freshPlayer}
 use Rattle.rules.specs.Window.{Report, told, silence, startedBy}
-use Rattle.rules.specs.Rules.{saidBy, said, isStartReport, areReports, spoken, least}
+use Rattle.rules.specs.Rules.{saidBy, said, isStartReport, spoken, least}
 use Rattle.rules.specs.Offers.{startNext, said-length, said-at}
 
 -- ------------------------------------------------------------------------
@@ -34,18 +34,18 @@ said-end : (silent : ℕ) (reports : List ℕ) (w : ℕ) → length reports ≤ 
 said-end silent reports w l = drop-of-length-le (said silent reports) {i = w} (rw (said-length silent reports) l)
 
 -- ------------------------------------------------------------------------
--- areReports
+-- reports that Start takes
 
-pub areReports-at : (j : List Entry) (silent : ℕ) (reports : List ℕ) (w : ℕ) → w < length reports →
-    areReports j w (drop w (said silent reports))
-    ≡ (isStartReport j w (saidBy silent w (getD reports w 0)) && areReports j (w + 1) (drop (w + 1) (said silent reports)))
-unfolding areReports
-areReports-at j silent reports w l = rw (said-drop silent reports w l, add-one w)
+pub reports-at : (l silent : ℕ) (reports : List ℕ) (w : ℕ) → w < length reports →
+    all (isStartReport l) (drop w (said silent reports))
+    ≡ (isStartReport l (saidBy silent w (getD reports w 0)) && all (isStartReport l) (drop (w + 1) (said silent reports)))
+unfolding all
+reports-at l silent reports w h = rw (said-drop silent reports w h)
 
-pub areReports-end : (j : List Entry) (silent : ℕ) (reports : List ℕ) (w : ℕ) → length reports ≤ w →
-    areReports j w (drop w (said silent reports)) ≡ true
-unfolding areReports
-areReports-end j silent reports w l = rw (said-end silent reports w l)
+pub reports-end : (l silent : ℕ) (reports : List ℕ) (w : ℕ) → length reports ≤ w →
+    all (isStartReport l) (drop w (said silent reports)) ≡ true
+unfolding all
+reports-end l silent reports w h = rw (said-end silent reports w h)
 
 -- ------------------------------------------------------------------------
 -- the least of a number and some reports
@@ -120,9 +120,9 @@ firstWindows-fresh l [] ws = refl
 firstWindows-fresh l (r ∷ rs) ws = ap₂ _∷_ (viewOf-by l r) (firstWindows-fresh l rs ws)
 
 -- what a fresh player shows
-pub freshPlayer-shown : (l count limit : ℕ) (rs : List Report) → length rs ≡ count →
-    playerOf (freshPlayer l count limit rs) ≡ startNext l limit rs
+pub freshPlayer-shown : (l count limit spacing : ℕ) (rs : List Report) → length rs ≡ count →
+    playerOf (freshPlayer l count limit spacing rs) ≡ startNext l limit spacing rs
 unfolding playerOf freshWindows
-freshPlayer-shown l count limit rs e =
-    ap (λ vs. record { limit = limit; current = least l (spoken rs); windows = vs })
+freshPlayer-shown l count limit spacing rs e =
+    ap (λ vs. record { limit = limit; spacing = spacing; current = least l (spoken rs); windows = vs })
     (ap (λ n. firstWindows n (freshWindows l rs)) (sym e) ∙ firstWindows-fresh l rs _)

@@ -5,16 +5,17 @@ use player::Player;
 use player::count_fits;
 use window::Answer;
 use window::Window;
-use window::is_report;
 use window::limit_fits;
+use window::spacing_fits;
 ghost use Prim.Native.Nat.{_≤_};
 ghost use mathlib.Core.Path.{_≡_};
 ghost use lib.ListN.{length};
-ghost use Rattle.journal.specs.Entry.{entriesOf, countOf};
+ghost use Rattle.journal.specs.Entry.{countOf};
+ghost use Rattle.lists.specs.All.{all};
 ghost use Rattle.window.specs.Promise.{windowBy};
 ghost use Rattle.player.specs.View.{playerOf};
 ghost use Rattle.player.specs.Promise.{freshWindows, Starts};
-ghost use Rattle.rules.specs.Rules.{saidBy, said, isStartReport, areReports, startFits, startRule};
+ghost use Rattle.rules.specs.Rules.{saidBy, said, isStartReport, startFits, startRule};
 ghost use Rattle.operations.specs.Starting.{lesser, lowest};
 
 // Whether the number of windows, the batch limit and the journal are in shape, and there are exactly so many reports.
@@ -33,30 +34,25 @@ fn start_in_shape(journal: &[u32], count: u32, limit: u32, reports: &[u32]) -> b
     reports.len() == count as usize
 }
 
-// Whether window w is silent, or its report is at most L, and 0 or the index of an entry for that window.
-fn is_start_report(journal: &[u32], w: u32, report: Index, silent: u32) -> bool
-    ensures { λ r. ⌜ r ≡ isStartReport (entriesOf (now (journal .entry))) w (saidBy silent w (report .0)) ⌝ }
+// Whether window w is silent, or its report is at most L, l here.
+fn is_start_report(l: u32, w: u32, report: u32, silent: u32) -> bool
+    ensures { λ r. ⌜ r ≡ isStartReport l (saidBy silent w report) ⌝ }
 {
     if journal::has(silent, w) {
         return true;
     }
-    let l = journal::entries(journal);
-    if l < report.0 as usize {
-        return false;
-    }
-    is_report(journal, w, report)
+    report <= l
 }
 
 // Whether this holds of each window and its report.
-fn are_reports(journal: &[u32], reports: &[u32], silent: u32) -> bool
+fn are_reports(l: u32, reports: &[u32], silent: u32) -> bool
     requires { ⌜ length (now reports) ≤ 16 ⌝ }
-    ensures { λ r. ⌜ r ≡ areReports (entriesOf (now (journal .entry))) 0 (said silent (now (reports .entry))) ⌝ }
+    ensures { λ r. ⌜ r ≡ all (isStartReport l) (said silent (now (reports .entry))) ⌝ }
 {
     let mut next = 0;
     while next < reports.len() {
         let w = next as u32;
-        let report = Index(reports[next]);
-        if !is_start_report(journal, w, report, silent) {
+        if !is_start_report(l, w, reports[next], silent) {
             return false;
         }
         next += 1;
@@ -115,20 +111,21 @@ fn windows_of(l: Index, reports: &[u32], silent: u32) -> [Window; 16]
     windows
 }
 
-// Start: 1, also where there are not exactly `count` reports; 13: a report that is not one of its window, unless the window is silent.
-// A window begins from its report, or as `Window::silent` has it; those from `count` up from a report of 0. `current` is the least report
-// of a window that is not silent, or L where all are. What the player held before is not read.
+// Start: 1, also where there are not exactly `count` reports; 18: the spacing is not 1 to 65,535; 13: a report above L, unless the window
+// is silent. A window begins from its report, or as `Window::silent` has it; those from `count` up from a report of 0. `current` is the
+// least report of a window that is not silent, or L where all are. What the player held before is not read.
 pub fn start_on(
     player: Player,
     journal: &[u32],
     count: u32,
     limit: u32,
+    spacing: u32,
     reports: &[u32],
     silent: u32,
 ) -> Played
     ensures { λ r.
-        ⌜ Starts player (countOf (now (journal .entry))) count limit (said silent (now (reports .entry))) r
-        (startRule (now (journal .entry)) count limit (said silent (now (reports .entry))) (playerOf player)) ⌝ }
+        ⌜ Starts player (countOf (now (journal .entry))) count limit spacing (said silent (now (reports .entry))) r
+        (startRule (now (journal .entry)) count limit spacing (said silent (now (reports .entry))) (playerOf player)) ⌝ }
 {
     if !start_in_shape(journal, count, limit, reports) {
         return Played {
@@ -136,16 +133,23 @@ pub fn start_on(
             player,
         };
     }
-    if !are_reports(journal, reports, silent) {
+    if !spacing_fits(spacing) {
+        return Played {
+            answer: Answer::BadSpacing,
+            player,
+        };
+    }
+    let l = journal::entries(journal) as u32;
+    if !are_reports(l, reports, silent) {
         return Played {
             answer: Answer::BadReport,
             player,
         };
     }
-    let l = journal::entries(journal) as u32;
     let fresh = Player {
         count,
         limit,
+        spacing,
         current: lowest(l, reports, silent),
         windows: windows_of(Index(l), reports, silent),
     };

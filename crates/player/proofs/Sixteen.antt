@@ -9,4 +9,4 @@ use Rattle.player.specs.declared.Player.{Player}
 use Rattle.player.proofs.Player as declared
 
 pub windows-length : (p : Player) (vs : List Val) → Is (row declared.the-type) p vs → length (p .windows) ≡ 16
-windows-length p vs h = sym (length-map (p .windows) _) ∙ h .1 .1 .1 .1 .1 .0 .1 .0 .1
+windows-length p vs h = sym (length-map (p .windows) _) ∙ h .1 .1 .1 .1 .1 .1 .0 .1 .0 .1

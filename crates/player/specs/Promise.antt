@@ -6,7 +6,7 @@ use mathlib.Core.Bool.{Bool, _&&_}
 use lib.ListN.{length, drop, replicate}
 use lib.Dec.{leb}
 use Rattle.journal.specs.Entry.{inShape, countOf}
-use Rattle.rules.specs.Shape.{countFits, limitFits}
+use Rattle.rules.specs.Shape.{countFits, limitFits, spacingFits}
 use Rattle.rules.specs.Window.{Report}
 use Rattle.rules.specs.Rules.{Outcome, spoken, least}
 use Rattle.window.specs.Promise.{numberOf, freshWindow, windowBy}
@@ -28,22 +28,24 @@ unfoldable pub freshWindows : ℕ → List Report → List Window
 freshWindows l reports = map (windowBy l) reports ++ replicate (16 - length reports) (freshWindow 0)
 
 -- a fresh player, whole
-abbrev pub freshPlayer : ℕ → ℕ → ℕ → List Report → Player
-freshPlayer l count limit reports = record {
+abbrev pub freshPlayer : (l count limit spacing : ℕ) → List Report → Player
+freshPlayer l count limit spacing reports = record {
   count = count;
   limit = limit;
+  spacing = spacing;
   current = record { 0 = least l (spoken reports) };
   windows = freshWindows l reports;
 }
 
 -- Start over a journal of l entries: its answer is the rule's; answered 0, the next state is a fresh player, whose view is the rule's; a
 -- refusal gives back the player handed in
-pub record Starts (before : Player) (l count limit : ℕ) (reports : List Report) (r : Played) (o : Outcome) : Type 0 where
+pub record Starts (before : Player) (l count limit spacing : ℕ) (reports : List Report) (r : Played) (o : Outcome) : Type 0 where
   pub answer : numberOf (r .answer) ≡ o .answer
   pub next : playerOf (r .player) ≡ o .next
-  pub fresh : o .answer ≡ 0 → r .player ≡ freshPlayer l count limit reports
+  pub fresh : o .answer ≡ 0 → r .player ≡ freshPlayer l count limit spacing reports
   pub unchanged : (o .answer ≡ 0 → ⊥) → r .player ≡ before
 
 -- what the shape asks of the player's numbers and of the journal, beside each window
-abbrev pub numbersFit : List ℕ → ℕ → ℕ → ℕ → Bool
-numbersFit ns count limit current = countFits count && (limitFits limit && (inShape ns && leb current (countOf ns)))
+abbrev pub numbersFit : List ℕ → (count limit spacing current : ℕ) → Bool
+numbersFit ns count limit spacing current =
+    countFits count && (limitFits limit && (spacingFits spacing && (inShape ns && leb current (countOf ns))))

@@ -11,7 +11,7 @@ use Rattle.lists.specs.Cases.{and-left, and-right}
 use Rattle.lists.specs.All.{all}
 use Rattle.window.specs.declared.Window.{Window}
 use Rattle.window.specs.View.{viewOf}
-use Rattle.rules.specs.Shape.{countFits, limitFits, windowShape, shape}
+use Rattle.rules.specs.Shape.{countFits, limitFits, spacingFits, windowShape, shape}
 use Rattle.player.specs.declared.Player.{Player}
 use Rattle.player.specs.View.{firstWindows, playerOf}
 use Rattle.player.specs.Promise.{numbersFit}
@@ -20,7 +20,7 @@ use Rattle.player.specs.FirstWindows.{firstWindows-length, firstWindows-
 
 -- the numbers of a player that code holds
 abbrev fitNumbers : List ℕ → Player → Bool
-fitNumbers ns p = numbersFit ns (p .count) (p .limit) (p .current .0)
+fitNumbers ns p = numbersFit ns (p .count) (p .limit) (p .spacing) (p .current .0)
 
 -- the windows from a place on are in shape
 abbrev fitFrom : List ℕ → Player → ℕ → Bool
@@ -44,7 +44,8 @@ module _ (ns : List ℕ) (p : Player) where
   pub tested-fit : length (p .windows) ≡ 16 → fitNumbers ns p ≡ true → Tested ns p 0
   tested-fit long h =
       let count = and-left (countFits (p .count)) _ h in
-      let more = and-right (limitFits (p .limit)) _ (and-right (countFits (p .count)) _ h) in
+      let more =
+      and-right (spacingFits (p .spacing)) _ (and-right (limitFits (p .limit)) _ (and-right (countFits (p .count)) _ h)) in
       record {
         long = long;
         few = leb-true _ _ (and-right (leb 1 (p .count)) _ count);

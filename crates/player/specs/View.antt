@@ -1,4 +1,4 @@
--- The view of a player: the batch limit, the last index read, and the views of its windows.
+-- The view of a player: the batch limit, the spacing, the last index read, and the views of its windows.
 use Prim.Native.Nat.{ℕ, zero, suc}
 use mathlib.Core.List.{List, [], _∷_}
 use Rattle.rules.specs.View.{WindowView, noWindow, PlayerView}
@@ -13,4 +13,9 @@ firstWindows (suc n) [] = noWindow ∷ firstWindows n []
 firstWindows (suc n) (w ∷ ws) = viewOf w ∷ firstWindows n ws
 
 unfoldable pub playerOf : Player → PlayerView
-playerOf p = record { limit = p .limit; current = p .current .0; windows = firstWindows (p .count) (p .windows) }
+playerOf p = record {
+  limit = p .limit;
+  spacing = p .spacing;
+  current = p .current .0;
+  windows = firstWindows (p .count) (p .windows);
+}

@@ -32,19 +32,19 @@ fn send(p: Player, journal: &[u32], n: Line) -> Player {
     lend(p, journal, n, &mut nines)
 }
 
-// Send at a window on its own, lent five nines.
-fn alone(window: Window, journal: &[u32], limit: u32) {
+// Send at window w on its own, lent five nines.
+fn alone(window: Window, journal: &[u32], w: u32, limit: u32) {
     let mut nines = [9; 5];
-    let turned = window_send::send_at(window, journal, limit, &mut nines);
+    let turned = window_send::send_at(window, journal, w, limit, &mut nines);
     let answer = turned.answer;
     show::answer(answer);
     show::out(&nines, 5);
 }
 
-// Start with the first `len` reports, and the set of silent windows before W.
+// Start with the first `len` reports, and the spacing and the set of silent windows before W.
 fn start(p: Player, journal: &[u32], n: Line, reports: &[u32], len: usize) -> Player {
     if len <= reports.len() {
-        return answered(operations::start_on(p, journal, n.c, n.d, &reports[0..len], n.b));
+        return answered(operations::start_on(p, journal, n.c, n.d, n.a, &reports[0..len], n.b));
     }
     p
 }
@@ -101,7 +101,7 @@ fn over(s: State, journal: &[u32], n: Line, letter: u8) -> Player {
     match letter {
         b'P' => start(p, journal, n, &cells, reports.len),
         b'O' => {
-            alone(s.window(), journal, p.limit);
+            alone(s.window(), journal, (s.place % 16) as u32, p.limit);
             p
         }
         b'I' => {

@@ -8,16 +8,17 @@
 // | `o` | W, batch limit, `current` | `C` | Catch: window, term, index |
 // | `v` | one more entry of the journal: windows, kind, race, value | `S` | Send: window, size of the output lent, how much is shown |
 // | `j` | how many numbers of the journal count | `W` | Written: window, term |
+// | `x` | the spacing | | |
 // | `r` | one more report for Start | `A` | Ack: window, term, index |
 // | `t` | the window that the letters below change | `D` | Drop: window |
 // | `i` | every window as this one is | `J` | Join: window, report |
-// | `h` | idle | `P` | Start: the set of silent windows, W, batch limit |
+// | `h` | idle | `P` | Start: spacing, the set of silent windows, W, batch limit |
 // | `l` | term, acknowledged, sent, and 1 for busy | `O` | Send at the window on its own, lent five numbers |
 // | `f` | Fetching: next, end | `I` | each operation at a window that no player has |
 // | `e` | Completed: end | `Z` | the same over a journal of so many zeros |
 // | `s` | Suspended | | what it shows |
 // | `b` | batches: an index in every cell, how many | `K` | `current` |
-// | `u` | one more batch | `L` | W and the batch limit |
+// | `u` | one more batch | `L`, `E` | W and the batch limit; the spacing |
 // | `n`, `g` | normal, catch-up queue: an index in every cell, how many | `V` | a window, with the sizes of its queues |
 // | `p`, `q` | one more index in it | `U` | a window, with its batches and the first three indices of its queues |
 mod ask;

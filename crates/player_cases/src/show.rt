@@ -136,6 +136,7 @@ pub(crate) fn letter(p: Player, w: u32, letter: u8) {
             field(b", windows ", p.count);
             field(b", limit ", p.limit);
         }
+        b'E' => field(b", spacing ", p.spacing),
         b'V' | b'U' => window(window_of(p, w as usize), w, letter),
         _ => {}
     }

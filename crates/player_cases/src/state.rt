@@ -11,14 +11,15 @@ pub(crate) struct State {
     pub(crate) player: Player,
     pub(crate) journal: Queue,
     pub(crate) reports: Queue,
-    place: usize,
+    pub(crate) place: usize,
 }
 
-// Two idle windows, the batch limit 2 and `current` 4, over no journal yet.
+// Two idle windows, the batch limit 2, the spacing 65,535 and `current` 4, over no journal yet.
 pub(crate) fn first() -> State {
     let player = Player {
         count: 2,
         limit: 2,
+        spacing: 65535,
         current: Index(4),
         windows: [windows::idle(); 16],
     };
@@ -62,6 +63,11 @@ fn windows(s: State, n: Line, letter: u8) -> [Window; 16] {
     windows
 }
 
+// The spacing that a letter makes of one.
+fn spacing(held: u32, n: Line, letter: u8) -> u32 {
+    if letter == b'x' { n.d } else { held }
+}
+
 // The player that a letter makes of a state's.
 fn player(s: State, n: Line, letter: u8) -> Player {
     let player = s.player;
@@ -70,6 +76,7 @@ fn player(s: State, n: Line, letter: u8) -> Player {
         return Player {
             count: n.b,
             limit: n.c,
+            spacing: player.spacing,
             current: Index(n.d),
             windows,
         };
@@ -78,6 +85,7 @@ fn player(s: State, n: Line, letter: u8) -> Player {
     Player {
         count: player.count,
         limit: player.limit,
+        spacing: spacing(player.spacing, n, letter),
         current,
         windows,
     }

@@ -36,23 +36,24 @@ use Rattle.calls.specs.CallFor.{CallFor, call-main, call-catch, call-written, c
 -- Start
 
 -- what Start gives
-pub record StartGiven (before : Player) (ns : List ℕ) (count limit : ℕ) (reports : List Report) : Type 0 where
+pub record StartGiven (before : Player) (ns : List ℕ) (count limit spacing : ℕ) (reports : List Report) : Type 0 where
   pub gave : Played
-  pub meets : Starts before (countOf ns) count limit reports gave (startRule ns count limit reports (playerOf before))
+  pub meets : Starts before (countOf ns) count limit spacing reports gave (startRule ns count limit spacing reports (playerOf before))
 
 -- A result to be read: whatever Start is handed, something can be given that meets its promise.
-pub start-given : (before : Player) (ns : List ℕ) (count limit : ℕ) (reports : List Report) → StartGiven before ns count limit reports
-start-given before ns count limit reports =
-    let o : Outcome = startRule ns count limit reports (playerOf before) in
-    let a = start-numbered ns count limit reports (playerOf before) in
+pub start-given : (before : Player) (ns : List ℕ) (count limit spacing : ℕ) (reports : List Report) →
+    StartGiven before ns count limit spacing reports
+start-given before ns count limit spacing reports =
+    let o : Outcome = startRule ns count limit spacing reports (playerOf before) in
+    let a = start-numbered ns count limit spacing reports (playerOf before) in
     ⊎-elim
     (λ (z : o .answer ≡ 0).
-    let d = startRule-done ns count limit reports (playerOf before) z in
+    let d = startRule-done ns count limit spacing reports (playerOf before) z in
     record {
-      gave = record { player = freshPlayer (countOf ns) count limit reports; answer = a .answer };
+      gave = record { player = freshPlayer (countOf ns) count limit spacing reports; answer = a .answer };
       meets = record {
         answer = a .number;
-        next = freshPlayer-shown (countOf ns) count limit reports (d .given .each) ∙ sym (d .next);
+        next = freshPlayer-shown (countOf ns) count limit spacing reports (d .given .each) ∙ sym (d .next);
         fresh = λ x. refl;
         unchanged = λ n. absurd (n z);
       };
@@ -61,17 +62,17 @@ start-given before ns count limit reports =
       gave = record { player = before; answer = a .answer };
       meets = record {
         answer = a .number;
-        next = sym (startRule-refuses ns count limit reports (playerOf before) n);
+        next = sym (startRule-refuses ns count limit spacing reports (playerOf before) n);
         fresh = λ z. absurd (n z);
         unchanged = λ x. refl;
       };
     })
     (eq-or-ne (o .answer) 0)
 
-call-start : (h : Host) (limit silent : ℕ) → CallFor h (W.start limit silent)
-call-start h limit silent =
-    let g = start-given (h .player) (h .journal) (length (h .windows)) limit (said silent (map reportOf (h .windows))) in
-    record { call = start limit silent (g .gave); same = refl; made = g .meets }
+call-start : (h : Host) (limit spacing silent : ℕ) → CallFor h (W.start limit spacing silent)
+call-start h limit spacing silent =
+    let g = start-given (h .player) (h .journal) (length (h .windows)) limit spacing (said silent (map reportOf (h .windows))) in
+    record { call = start limit spacing silent (g .gave); same = refl; made = g .meets }
 
 -- ------------------------------------------------------------------------
 -- One step
@@ -109,7 +110,7 @@ module _ {h : Host} {wd : World} (is : Shows h wd) where
   call-for (W.late-ack w t i) made = call-late h w t i (late-made w t i made)
   call-for (W.drop w) made = call-drop h w
   call-for (W.join w) made = call-join h w
-  call-for (W.start limit silent) made = call-start h limit silent
+  call-for (W.start limit spacing silent) made = call-start h limit spacing silent
   call-for (W.append e) made = call-append h e (append-made e made)
 
 -- ------------------------------------------------------------------------

@@ -107,26 +107,26 @@ pub join-made : (κs : Lfts 1) (a : Dens κs join-kinds.ps) (r : Played) (s : At
     Made (holding (a .0) (now (a .1 .0)) ds) (join (a .1 .1 .0) r)
 join-made κs a r s h ds e = rw e h
 
--- W, a report from each window, any set of silent windows, and as the report of each that is not silent its record's last index
+-- W, a report from each window, any spacing and set of silent windows, and as the report of each that is not silent its record's last index
 pub start-made : (κs : Lfts 2) (a : Dens κs start-kinds.ps) (r : Played) (s : AtExit (endedOf 2 start-kinds.ps start-kinds.r) κs) →
     start-reads.Post κs a r s →
-    (ds : List WindowEnd) → length ds ≡ a .1 .1 .0 → length (now (a .1 .1 .1 .1 .0)) ≡ length ds →
-    ((w : ℕ) → w < length ds → speaks (a .1 .1 .1 .1 .1 .0) w ≡ true → getD (now (a .1 .1 .1 .1 .0)) w 0 ≡ getD (map reportOf ds) w 0) →
-    Made (holding (a .0) (now (a .1 .0)) ds) (start (a .1 .1 .1 .0) (a .1 .1 .1 .1 .1 .0) r)
+    (ds : List WindowEnd) → length ds ≡ a .1 .1 .0 → length (now (a .1 .1 .1 .1 .1 .0)) ≡ length ds →
+    ((w : ℕ) → w < length ds → speaks (a .1 .1 .1 .1 .1 .1 .0) w ≡ true → getD (now (a .1 .1 .1 .1 .1 .0)) w 0 ≡ getD (map reportOf ds) w 0) →
+    Made (holding (a .0) (now (a .1 .0)) ds) (start (a .1 .1 .1 .0) (a .1 .1 .1 .1 .0) (a .1 .1 .1 .1 .1 .1 .0) r)
 start-made κs a r s h ds n m e =
-    let right : said (a .1 .1 .1 .1 .1 .0) (now (a .1 .1 .1 .1 .0)) ≡ said (a .1 .1 .1 .1 .1 .0) (map reportOf ds)
-    = said-unread (a .1 .1 .1 .1 .1 .0) _ (map reportOf ds) (m ∙ sym (length-map ds reportOf)) (λ w l. e w (rw m at l)) in
+    let right : said (a .1 .1 .1 .1 .1 .1 .0) (now (a .1 .1 .1 .1 .1 .0)) ≡ said (a .1 .1 .1 .1 .1 .1 .0) (map reportOf ds)
+    = said-unread (a .1 .1 .1 .1 .1 .1 .0) _ (map reportOf ds) (m ∙ sym (length-map ds reportOf)) (λ w l. e w (rw m at l)) in
     rw (n, ← right) h
 
 -- the first Start, on which demand 3 begins: as the report of each window that is not silent a new record's last index
 pub first-made : (κs : Lfts 2) (a : Dens κs start-kinds.ps) (r : Played) (s : AtExit (endedOf 2 start-kinds.ps start-kinds.r) κs) →
-    start-reads.Post κs a r s → length (now (a .1 .1 .1 .1 .0)) ≡ a .1 .1 .0 →
-    ((w : ℕ) → w < a .1 .1 .0 → speaks (a .1 .1 .1 .1 .1 .0) w ≡ true → getD (now (a .1 .1 .1 .1 .0)) w 0 ≡ 0) →
-    FirstStart (a .0) (now (a .1 .0)) (a .1 .1 .0) (a .1 .1 .1 .0) (a .1 .1 .1 .1 .1 .0) r
+    start-reads.Post κs a r s → length (now (a .1 .1 .1 .1 .1 .0)) ≡ a .1 .1 .0 →
+    ((w : ℕ) → w < a .1 .1 .0 → speaks (a .1 .1 .1 .1 .1 .1 .0) w ≡ true → getD (now (a .1 .1 .1 .1 .1 .0)) w 0 ≡ 0) →
+    FirstStart (a .0) (now (a .1 .0)) (a .1 .1 .0) (a .1 .1 .1 .0) (a .1 .1 .1 .1 .0) (a .1 .1 .1 .1 .1 .1 .0) r
 first-made κs a r s h n e =
     let zeros : List ℕ = replicate (a .1 .1 .0) 0 in
-    let right : said (a .1 .1 .1 .1 .1 .0) (now (a .1 .1 .1 .1 .0)) ≡ newReports (a .1 .1 .1 .1 .1 .0) (a .1 .1 .0)
-    = said-unread (a .1 .1 .1 .1 .1 .0) _ zeros (n ∙ sym (length-replicate (a .1 .1 .0) 0))
+    let right : said (a .1 .1 .1 .1 .1 .1 .0) (now (a .1 .1 .1 .1 .1 .0)) ≡ newReports (a .1 .1 .1 .1 .1 .1 .0) (a .1 .1 .0)
+    = said-unread (a .1 .1 .1 .1 .1 .1 .0) _ zeros (n ∙ sym (length-replicate (a .1 .1 .0) 0))
     (λ w l t. e w (rw n at l) t ∙ sym (getD-replicate (a .1 .1 .0) w 0 0 (rw n at l))) in
     rw (← right) h
 

@@ -7,13 +7,11 @@ use native.Mathlib.Omega.{arith}
 use borrow.Author.Tests.{leb-true, lt-leb, ltb-true, lt-ltb, le-ltb, not-false}
 use lib.ListN.{length, drop}
 use lib.Dec.{leb, ltb}
-use Rattle.journal.specs.declared.Entry.{Entry}
-use Rattle.journal.specs.Entry.{entriesOf, isFor}
 use Rattle.lists.specs.Cases.{and-left, and-right, not-and, not-leb, not-ltb}
 use Rattle.lists.specs.All.{heldIn}
-use Rattle.lists.specs.Elem.{elem}
+use Rattle.lists.specs.Elem.{elem, lastOr}
 use Rattle.lists.specs.Rising.{Rising}
-use Rattle.lists.specs.Above.{above, above-elem, above-length, all-above, above-rising, above-first, above-cut}
+use Rattle.lists.specs.Above.{above, above-elem, above-length, all-above, above-rising, above-first, above-last, above-cut}
 use Rattle.lists.specs.Refusal.{_when_, firstOf}
 use Rattle.rules.specs.declared.Term.{Term}
 use Rattle.rules.specs.View.{WindowView, PlayerView}
@@ -27,11 +25,11 @@ use Rattle.rules.specs.Parts.{normalQueued, catchQueued, conditionShaped
 use Rattle.rules.specs.Operate.{Operated, operated-at, Lawful, decides-lawful, Effect, LawfulRule, operate-lawful}
 
 -- ------------------------------------------------------------------------
--- the refusals in document 01's order
+-- the refusals in the papers' order
 
--- 11: the index is at or below acknowledged, above sent, or not that of an entry for this window
-abbrev pub badAck : List Entry → ℕ → ℕ → WindowView → Bool
-badAck j w i v = leb i (v .acked) || (ltb (v .sent) i || not (isFor j w i))
+-- 11: the index is at or below acknowledged, or above sent
+abbrev pub badAck : ℕ → WindowView → Bool
+badAck i v = leb i (v .acked) || ltb (v .sent) i
 
 -- A result to be read: 1; 2; 3; 5; 11
 pub ackRule-refusals : (ns : List ℕ) (w : ℕ) (t : Term) (i : ℕ) (p : PlayerView) →
@@ -41,7 +39,7 @@ pub ackRule-refusals : (ns : List ℕ) (w : ℕ) (t : Term) (i : ℕ) (p : Playe
     ∷ 2 when noSuchWindow w p
     ∷ 3 when isSuspended (v .condition)
     ∷ 5 when otherTerm t v
-    ∷ 11 when badAck (entriesOf ns) w i v
+    ∷ 11 when badAck i v
     ∷ [])
 unfolding ackRule ackAt
 ackRule-refusals ns w t i p = operate-answer ns w _ p _ (λ s. simp (check-answer, not-and, not-ltb, not-leb))
@@ -49,20 +47,18 @@ ackRule-refusals ns w t i p = operate-answer ns w _ p _ (λ s. simp (check-answe
 -- ------------------------------------------------------------------------
 -- at one window
 
-ackAt-decides : (j : List Entry) (w : ℕ) (t : Term) (i : ℕ) (v : WindowView) →
-    Decides (isSuspended (v .condition) ∷ otherTerm t v ∷ not (isAck j w i v) ∷ []) v (acknowledged i v) (ackAt j w t i v)
+ackAt-decides : (t : Term) (i : ℕ) (v : WindowView) →
+    Decides (isSuspended (v .condition) ∷ otherTerm t v ∷ not (isAck i v) ∷ []) v (acknowledged i v) (ackAt t i v)
 unfolding ackAt
-ackAt-decides j w t i v = check-decides 2 (check-decides 4 (check-decides 10 (done-decides v _)))
+ackAt-decides t i v = check-decides 2 (check-decides 4 (check-decides 10 (done-decides v _)))
 
--- answered 0: the window was not Suspended, the term was its own, and the index was that of an entry of its own, above acknowledged and not
--- above sent
-pub record AckTaken (j : List Entry) (w : ℕ) (t : Term) (i : ℕ) (v : WindowView) : Type 0 where
+-- answered 0: the window was not Suspended, the term was its own, and the index was above acknowledged and not above sent
+pub record AckTaken (t : Term) (i : ℕ) (v : WindowView) : Type 0 where
   pub here : isSuspended (v .condition) ≡ false
   pub term : t .0 ≡ v .term .0
   pub up : v .acked < i
   pub most : i ≤ v .sent
-  pub own : isFor j w i ≡ true
-  pub next : ackAt j w t i v .next ≡ acknowledged i v
+  pub next : ackAt t i v .next ≡ acknowledged i v
 
 -- a batch is unacknowledged afterwards where it was before and ends above the index
 pub acknowledged-leaves : (i : ℕ) (v : WindowView) (x : ℕ) → elem x (acknowledged i v .batches) ≡ (elem x (v .batches) && ltb i x)
@@ -77,6 +73,11 @@ pub acknowledged-oldest : (a b i : ℕ) (v : WindowView) (xs : List ℕ) → v .
     acknowledged i v .batches ≡ xs
 acknowledged-oldest a b i v xs e r = ap (above i) e ∙ above-first a b i xs (subst (λ l. Rising a l b) e r)
 
+-- where the newest ends at sent, or none is unacknowledged and all that is sent is acknowledged, it still is so
+pub acknowledged-newest : (a b i : ℕ) (v : WindowView) → a ≤ i → i ≤ b → Rising a (v .batches) b → lastOr a (v .batches) ≡ b →
+    lastOr i (acknowledged i v .batches) ≡ b
+acknowledged-newest a b i v low most rises newest = above-last a b i (v .batches) most rises newest low
+
 -- the window stays in shape
 acknowledged-shaped : {l c : ℕ} (i : ℕ) (v : WindowView) → WindowShaped l c v → isSuspended (v .condition) ≡ false → i ≤ v .sent →
     WindowShaped l c (acknowledged i v)
@@ -90,19 +91,16 @@ acknowledged-shaped {l} i v s here most =
     })
     (conditionShaped s here)
 
-ackAt-lawful : (c : ℕ) (j : List Entry) (w : ℕ) (t : Term) (i : ℕ) (v : WindowView) →
-    Lawful c v (ackAt j w t i v) (AckTaken j w t i v) (λ d. acknowledged i v)
-ackAt-lawful c j w t i v =
-    decides-lawful (ackAt-decides j w t i v)
+ackAt-lawful : (c : ℕ) (t : Term) (i : ℕ) (v : WindowView) → Lawful c v (ackAt t i v) (AckTaken t i v) (λ d. acknowledged i v)
+ackAt-lawful c t i v =
+    decides-lawful (ackAt-decides t i v)
     (λ (here, (term, (taken, _))) next.
-    let is : isAck j w i v ≡ true = not-false _ taken in
-    let rest = and-right (ltb (v .acked) i) _ is in
+    let is : isAck i v ≡ true = not-false _ taken in
     record {
       here = here;
       term = otherTerm-same t v term;
       up = ltb-true _ _ (and-left (ltb (v .acked) i) _ is);
-      most = leb-true _ _ (and-left (leb i (v .sent)) _ rest);
-      own = and-right (leb i (v .sent)) _ rest;
+      most = leb-true _ _ (and-right (ltb (v .acked) i) _ is);
       next = next;
     })
     (λ d l most s. acknowledged-shaped i v s (d .here) (d .most))
@@ -110,25 +108,25 @@ ackAt-lawful c j w t i v =
 -- ------------------------------------------------------------------------
 -- the rule
 
-abbrev pub ackEffect : ℕ → Term → ℕ → Effect
-ackEffect w t i = record { tells = λ j v. AckTaken j w t i v; makes = λ j v d. acknowledged i v }
+abbrev pub ackEffect : Term → ℕ → Effect
+ackEffect t i = record { tells = λ j v. AckTaken t i v; makes = λ j v d. acknowledged i v }
 
-pub ackRule-lawful : (ns : List ℕ) (w : ℕ) (t : Term) (i : ℕ) (p : PlayerView) → LawfulRule ns w p (ackRule ns w t i p) (ackEffect w t i)
+pub ackRule-lawful : (ns : List ℕ) (w : ℕ) (t : Term) (i : ℕ) (p : PlayerView) → LawfulRule ns w p (ackRule ns w t i p) (ackEffect t i)
 unfolding ackRule
-ackRule-lawful ns w t i p = operate-lawful ns w _ p _ (ackAt-lawful _ (entriesOf ns) w t i _)
+ackRule-lawful ns w t i p = operate-lawful ns w _ p _ (ackAt-lawful _ t i _)
 
 pub ackRule-done : (ns : List ℕ) (w : ℕ) (t : Term) (i : ℕ) (p : PlayerView) → ackRule ns w t i p .answer ≡ 0 →
-    Operated ns w p (ackRule ns w t i p) (AckTaken (entriesOf ns) w t i (windowAt w p)) (λ c. acknowledged i (windowAt w p))
+    Operated ns w p (ackRule ns w t i p) (AckTaken t i (windowAt w p)) (λ c. acknowledged i (windowAt w p))
 ackRule-done ns w t i p = ackRule-lawful ns w t i p .does
 
--- an entry of the window's own, above acknowledged and not above sent, is taken on the window's own term
+-- an index above acknowledged and not above sent is taken on the window's own term
 pub ackRule-can : (ns : List ℕ) (w : ℕ) (p : PlayerView) → shape ns p ≡ true → w < length (p .windows) →
     (i : ℕ) → isSuspended (windowAt w p .condition) ≡ false → windowAt w p .acked < i → i ≤ windowAt w p .sent →
-    isFor (entriesOf ns) w i ≡ true → ackRule ns w (windowAt w p .term) i p .answer ≡ 0
-ackRule-can ns w p shaped within i here up most own =
+    ackRule ns w (windowAt w p .term) i p .answer ≡ 0
+ackRule-can ns w p shaped within i here up most =
     let v : WindowView = windowAt w p in
     ackRule-refusals ns w _ i p
-    ∙ simp (shaped, lt-ltb w _ within, here, otherTerm-own v, lt-leb i (v .acked) up, le-ltb (v .sent) i most, own)
+    ∙ simp (shaped, lt-ltb w _ within, here, otherTerm-own v, lt-leb i (v .acked) up, le-ltb (v .sent) i most)
 
 -- ------------------------------------------------------------------------
 -- the batches that it leaves

@@ -31,6 +31,7 @@ append-shaped ns e p s room =
       most = f .most;
       limitSome = f .limitSome;
       limitMost = f .limitMost;
+      spacing = f .spacing;
       journal = and-intro (eq-eqb _ _ z) (le-leb (countOf longer) 65535 (omega arith));
       currentIn = omega (arith, f .currentIn);
       windows = λ w l. wider-shaped (omega arith) (omega arith) (f .windows w l);

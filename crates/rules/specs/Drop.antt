@@ -13,7 +13,7 @@ use Rattle.rules.specs.Parts.{away-shaped}
 use Rattle.rules.specs.Operate.{Lawful, decides-lawful, Effect, LawfulRule, operate-lawful}
 
 -- ------------------------------------------------------------------------
--- the refusals in document 01's order
+-- the refusals in the papers' order
 
 -- A result to be read: 1; 2; 3
 pub dropRule-refusals : (ns : List ℕ) (w : ℕ) (p : PlayerView) →

@@ -10,6 +10,7 @@ pub mod Refusals
 pub mod Parts
 pub mod Operate
 pub mod Main
+pub mod TickExamples
 pub mod Catch
 pub mod Batch
 pub mod Send

@@ -60,9 +60,6 @@ module _ (ns : List ℕ) (w : ℕ) (f : WindowView → Turn) (p : PlayerView) wh
       go true s false b = two
       go false s t b = one
 
-  pub operate-limit : operate ns w f p .next .limit ≡ p .limit
-  operate-limit = operate-cases (λ o. o .next .limit ≡ p .limit) refl refl (λ s h. refl)
-
   -- in shape and at a window that is there, the window's rule decides
   pub operate-can : (v′ : WindowView) → shape ns p ≡ true → w < length (p .windows) → f (windowAt w p) ≡ done v′ →
       operate ns w f p .answer ≡ 0
@@ -81,6 +78,7 @@ withWindow-shaped ns p s w v l h =
       most = omega (arith, f .most);
       limitSome = f .limitSome;
       limitMost = f .limitMost;
+      spacing = f .spacing;
       journal = f .journal;
       currentIn = f .currentIn;
       windows = λ u k.
@@ -125,7 +123,7 @@ operate-lawful ns w f p x law =
       refuses =
           operate-cases ns w f p (λ o. (o .answer ≡ 0 → ⊥) → o .next ≡ p) (λ n. refl) (λ n. refl)
           (λ s h n. ap (λ v. withWindow w v p) (law .refuses n)
-          ∙ ap (λ vs. record { limit = p .limit; current = p .current; windows = vs }) (set-getD (p .windows) w noWindow));
+          ∙ ap (λ vs. record { limit = p .limit; spacing = p .spacing; current = p .current; windows = vs }) (set-getD (p .windows) w noWindow));
       does =
           operate-cases ns w f p
           (λ o. o .answer ≡ 0 → Operated ns w p o (x .tells (entriesOf ns) (windowAt w p)) (x .makes (entriesOf ns) (windowAt w p)))

@@ -1,16 +1,17 @@
--- Document 01, "Operations of the player", with document 02's Ack and Start: the shape, then the window, then the window's rule. A promise
--- is an equation with one of these.
+-- Document 01, "Operations of the player", with document 02's acks, silent windows and ticks: the shape, then the window, then the window's
+-- rule. A promise is an equation with one of these.
 use Prim.Native.Nat.{ℕ, suc, _+_, min}
 use mathlib.Core.List.{List, [], _∷_, _++_, map}
 use mathlib.Core.Bool.{Bool, true, not, cond, _&&_}
 use lib.ListN.{length, getD, set, drop}
 use lib.Dec.{leb, ltb, eqb}
 use Rattle.journal.specs.declared.Entry.{Entry}
-use Rattle.journal.specs.Entry.{inShape, countOf, entriesOf, placedAt, fiveOf, hasWindow}
+use Rattle.journal.specs.Entry.{Placed, entry4, inShape, countOf, entriesOf, placedAt, fiveOf, isFor, hasWindow}
+use Rattle.lists.specs.All.{all}
 use Rattle.rules.specs.declared.Term.{Term}
 use Rattle.rules.specs.View.{WindowView, PlayerView, noWindow}
-use Rattle.rules.specs.Shape.{countFits, limitFits, shape}
-use Rattle.rules.specs.Window.{Turn, mainAt, catchAt, batchOf, sendAt, writtenAt, ackAt, dropAt, joinAt, isReport, Report, told, silence, startedBy}
+use Rattle.rules.specs.Shape.{countFits, limitFits, spacingFits, shape}
+use Rattle.rules.specs.Window.{Turn, mainAt, catchAt, batchOf, sendAt, writtenAt, ackAt, dropAt, joinAt, Report, told, silence, startedBy}
 
 -- an answer and the player as it then is
 pub record Outcome : Type 0 where
@@ -24,7 +25,7 @@ abbrev pub windowAt : ℕ → PlayerView → WindowView
 windowAt w p = getD (p .windows) w noWindow
 
 abbrev pub withWindow : ℕ → WindowView → PlayerView → PlayerView
-withWindow w v p = record { limit = p .limit; current = p .current; windows = set (p .windows) w v }
+withWindow w v p = record { limit = p .limit; spacing = p .spacing; current = p .current; windows = set (p .windows) w v }
 
 -- a turn stored at window w
 abbrev pub turnAt : ℕ → Turn → PlayerView → Outcome
@@ -49,7 +50,12 @@ mainRule ns i p =
     (cond (not (eqb i (p .current + 1))) (refuse 6 p)
     (record {
       answer = 0;
-      next = record { limit = p .limit; current = i; windows = mapWindows (λ w v. mainAt (entriesOf ns) w i v) 0 (p .windows) };
+      next = record {
+        limit = p .limit;
+        spacing = p .spacing;
+        current = i;
+        windows = mapWindows (λ w v. mainAt (entriesOf ns) w (p .spacing) i v) 0 (p .windows);
+      };
     })))
 
 unfoldable pub catchRule : List ℕ → ℕ → Term → ℕ → PlayerView → Outcome
@@ -59,13 +65,13 @@ unfoldable pub writtenRule : List ℕ → ℕ → Term → PlayerView → Outcom
 writtenRule ns w t p = operate ns w (λ v. writtenAt t v) p
 
 unfoldable pub ackRule : List ℕ → ℕ → Term → ℕ → PlayerView → Outcome
-ackRule ns w t i p = operate ns w (λ v. ackAt (entriesOf ns) w t i v) p
+ackRule ns w t i p = operate ns w (λ v. ackAt t i v) p
 
 unfoldable pub dropRule : List ℕ → ℕ → PlayerView → Outcome
 dropRule ns w p = operate ns w (λ v. dropAt v) p
 
 unfoldable pub joinRule : List ℕ → ℕ → ℕ → PlayerView → Outcome
-joinRule ns w r p = operate ns w (λ v. joinAt (entriesOf ns) w (p .current) r v) p
+joinRule ns w r p = operate ns w (λ v. joinAt (p .current) r v) p
 
 -- ------------------------------------------------------------------------
 -- Send: the player's turn, and the output lent
@@ -73,10 +79,18 @@ joinRule ns w r p = operate ns w (λ v. joinAt (entriesOf ns) w (p .current) r v
 unfoldable pub sendRule : List ℕ → ℕ → ℕ → PlayerView → Outcome
 sendRule ns w size p = operate ns w (λ v. sendAt (p .limit) size v) p
 
--- the numbers of a batch, index and four numbers an entry
-unfoldable pub batchNumbers : List Entry → List ℕ → List ℕ
-batchNumbers j [] = []
-batchNumbers j (i ∷ is) = fiveOf (placedAt j i) ++ batchNumbers j is
+-- a tick: kind NOTE, with set, race and value 0
+abbrev pub tick : ℕ → Placed
+tick i = record { index = i; entry = entry4 0 4 0 0 }
+
+-- what goes out to window w for a queued index: the entry, or a tick where that is not for the window
+unfoldable pub sentFor : List Entry → ℕ → ℕ → Placed
+sentFor j w i = cond (isFor j w i) (placedAt j i) (tick i)
+
+-- the numbers of a batch for window w, five for each index
+unfoldable pub batchNumbers : List Entry → ℕ → List ℕ → List ℕ
+batchNumbers j w [] = []
+batchNumbers j w (i ∷ is) = fiveOf (sentFor j w i) ++ batchNumbers j w is
 
 -- the batch that a Send answered 0 writes
 abbrev pub batchAt : ℕ → PlayerView → List ℕ
@@ -85,11 +99,11 @@ batchAt w p = batchOf (p .limit) (windowAt w p) .indices
 -- the output after Send: the batch's numbers, and the numbers after them untouched; a refusal leaves it as it was
 unfoldable pub sendOutput : List ℕ → ℕ → List ℕ → PlayerView → List ℕ
 sendOutput ns w out p =
-    let sent : List ℕ = batchNumbers (entriesOf ns) (batchAt w p) in
+    let sent : List ℕ = batchNumbers (entriesOf ns) w (batchAt w p) in
     cond (eqb (sendRule ns w (length out) p .answer) 0) (sent ++ drop (length sent) out) out
 
 -- ------------------------------------------------------------------------
--- Start: W, the batch limit, and from each window its report or silence; what the player held before is not read
+-- Start: W, the batch limit, the spacing, and from each window its report or silence; what the player held before is not read
 
 -- a window speaks if the set of silent windows does not have it
 abbrev pub speaks : ℕ → ℕ → Bool
@@ -107,15 +121,10 @@ saidFrom silent w (r ∷ rs) = saidBy silent w r ∷ saidFrom silent (suc w) rs
 abbrev pub said : ℕ → List ℕ → List Report
 said silent reports = saidFrom silent 0 reports
 
--- what Start takes of window w: a report that is at most L, and 0 or the index of an entry for the window; and silence
-abbrev pub isStartReport : List Entry → ℕ → Report → Bool
-isStartReport j w (told r) = leb r (length j) && isReport j w r
-isStartReport j w silence = true
-
--- it takes what it gets of each window, from window w on
-unfoldable pub areReports : List Entry → ℕ → List Report → Bool
-areReports j w [] = true
-areReports j w (r ∷ rs) = isStartReport j w r && areReports j (suc w) rs
+-- what Start takes of a window: a report of at most L, and silence
+abbrev pub isStartReport : ℕ → Report → Bool
+isStartReport l (told r) = leb r l
+isStartReport l silence = true
 
 -- the reports of the windows that are not silent
 unfoldable pub spoken : List Report → List ℕ
@@ -133,13 +142,19 @@ least l (r ∷ s ∷ rs) = min r (least l (s ∷ rs))
 abbrev pub startFits : List ℕ → ℕ → ℕ → ℕ → Bool
 startFits ns count limit n = countFits count && (limitFits limit && (inShape ns && eqb n count))
 
--- 1, also if there are not exactly W reports. 13: a report above L, or not 0 and not the index of an entry for that window. `current` is
--- the least report, or L if all windows are silent
-unfoldable pub startRule : List ℕ → ℕ → ℕ → List Report → PlayerView → Outcome
-startRule ns count limit reports p =
+-- 1, also if there are not exactly W reports. 18: the spacing outside its limits. 13: a report above L. `current` is the least report, or L
+-- if all windows are silent
+unfoldable pub startRule : List ℕ → (count limit spacing : ℕ) → List Report → PlayerView → Outcome
+startRule ns count limit spacing reports p =
     cond (not (startFits ns count limit (length reports))) (refuse 1 p)
-    (cond (not (areReports (entriesOf ns) 0 reports)) (refuse 13 p)
+    (cond (not (spacingFits spacing)) (refuse 18 p)
+    (cond (not (all (isStartReport (countOf ns)) reports)) (refuse 13 p)
     (record {
       answer = 0;
-      next = record { limit = limit; current = least (countOf ns) (spoken reports); windows = map (startedBy (countOf ns)) reports };
-    }))
+      next = record {
+        limit = limit;
+        spacing = spacing;
+        current = least (countOf ns) (spoken reports);
+        windows = map (startedBy (countOf ns)) reports;
+      };
+    })))

@@ -9,12 +9,12 @@ use borrow.Author.Tests.{leb-true}
 use lib.ListN.{length, getD, replicate}
 use lib.Seq.{ext-getD}
 use lib.Dec.{leb}
-use Rattle.journal.specs.declared.Entry.{Entry}
 use Rattle.journal.specs.Entry.{hasWindow}
 use Rattle.journal.specs.EntryLaws.{hasWindow-none}
 use Rattle.lists.specs.Cases.{and-left, and-right}
-use Rattle.rules.specs.Window.{isReport, Report, told, silence}
-use Rattle.rules.specs.Rules.{speaks, saidBy, saidFrom, said, isStartReport, areReports, spoken, least}
+use Rattle.lists.specs.All.{all}
+use Rattle.rules.specs.Window.{Report, told, silence}
+use Rattle.rules.specs.Rules.{speaks, saidBy, saidFrom, said, isStartReport, spoken, least}
 
 -- ------------------------------------------------------------------------
 -- said
@@ -127,28 +127,19 @@ least-silent l zero = refl
 least-silent l (suc n) = least-silent l n
 
 -- ------------------------------------------------------------------------
--- areReports
+-- reports that Start takes
 
-module _ (j : List Entry) where
-  start-report-le : (v r : ℕ) → isStartReport j v (told r) ≡ true → r ≤ length j
-  start-report-le v r h = leb-true r (length j) (and-left (leb r (length j)) (isReport j v r) h)
+module _ (l : ℕ) where
+  pub reports-le : (rs : List Report) → all (isStartReport l) rs ≡ true → (w r : ℕ) → getD rs w silence ≡ told r → r ≤ l
+  unfolding all
+  reports-le [] h w r e = absurd (silence≢told e)
+  reports-le (told x ∷ rs) h zero r e = omega (arith, leb-true x l (and-left (leb x l) _ h), told-injective e)
+  reports-le (told x ∷ rs) h (suc w) r e = reports-le rs (and-right (leb x l) _ h) w r e
+  reports-le (silence ∷ rs) h zero r e = absurd (silence≢told e)
+  reports-le (silence ∷ rs) h (suc w) r e = reports-le rs h w r e
 
-  pub areReports-le : (v : ℕ) (rs : List Report) → areReports j v rs ≡ true → (w r : ℕ) → getD rs w silence ≡ told r → r ≤ length j
-  unfolding areReports
-  areReports-le v [] h w r e = absurd (silence≢told e)
-  areReports-le v (told x ∷ rs) h zero r e =
-      omega (arith, start-report-le v x (and-left (isStartReport j v (told x)) _ h), told-injective e)
-  areReports-le v (told x ∷ rs) h (suc w) r e = areReports-le (suc v) rs (and-right (isStartReport j v (told x)) _ h) w r e
-  areReports-le v (silence ∷ rs) h zero r e = absurd (silence≢told e)
-  areReports-le v (silence ∷ rs) h (suc w) r e = areReports-le (suc v) rs h w r e
-
-  pub areReports-least : (v : ℕ) (rs : List Report) → areReports j v rs ≡ true → least (length j) (spoken rs) ≤ length j
-  unfolding areReports spoken least
-  areReports-least v [] h = le-refl (length j)
-  areReports-least v (told x ∷ rs) h =
-      omega (
-        arith,
-        least-first (length j) x (spoken rs),
-        start-report-le v x (and-left (isStartReport j v (told x)) _ h),
-      )
-  areReports-least v (silence ∷ rs) h = areReports-least (suc v) rs h
+  pub reports-least : (rs : List Report) → all (isStartReport l) rs ≡ true → least l (spoken rs) ≤ l
+  unfolding all spoken least
+  reports-least [] h = le-refl l
+  reports-least (told x ∷ rs) h = omega (arith, least-first l x (spoken rs), leb-true x l (and-left (leb x l) _ h))
+  reports-least (silence ∷ rs) h = reports-least rs h

@@ -1,4 +1,5 @@
--- Document 01, "Every operation": when a state and a journal are in shape. Each clause stands in the paper's order.
+-- Document 01, "Every operation", with document 02's spacing (W5): when a state and a journal are in shape. Each clause stands in the
+-- paper's order.
 use Prim.Native.Nat.{ℕ}
 use mathlib.Core.List.{List, [], _∷_}
 use mathlib.Core.Bool.{Bool, true, false, not, _&&_}
@@ -18,6 +19,10 @@ countFits n = leb 1 n && leb n 16
 
 abbrev pub limitFits : ℕ → Bool
 limitFits n = leb 1 n && leb n 32
+
+-- the spacing is 1 to 65,535
+abbrev pub spacingFits : ℕ → Bool
+spacingFits n = leb 1 n && leb n 65535
 
 -- 128 indices at most in a queue, 8 batches at most
 abbrev pub lengthsFit : WindowView → Bool
@@ -80,4 +85,5 @@ unfoldable pub shape : List ℕ → PlayerView → Bool
 shape ns p =
     countFits (length (p .windows))
     && (limitFits (p .limit)
-    && (inShape ns && (leb (p .current) (countOf ns) && all (windowShape (countOf ns) (p .current)) (p .windows))))
+    && (spacingFits (p .spacing)
+    && (inShape ns && (leb (p .current) (countOf ns) && all (windowShape (countOf ns) (p .current)) (p .windows)))))

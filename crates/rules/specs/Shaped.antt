@@ -10,7 +10,7 @@ use Rattle.lists.specs.Cases.{and-left, and-right, and-intro}
 use Rattle.journal.specs.Entry.{inShape, countOf}
 use Rattle.lists.specs.All.{all, queuedIn, heldIn, all-at, all-of}
 use Rattle.rules.specs.View.{WindowView, PlayerView, noWindow}
-use Rattle.rules.specs.Shape.{lengthsFit, queuedFit, heldFit, countFits, limitFits, conditionHeld, nextFits, endFits, catchUpFits, suspendedFits, windowShape, shape}
+use Rattle.rules.specs.Shape.{lengthsFit, queuedFit, heldFit, countFits, limitFits, spacingFits, conditionHeld, nextFits, endFits, catchUpFits, suspendedFits, windowShape, shape}
 use Rattle.rules.specs.Rules.{windowAt}
 
 -- ------------------------------------------------------------------------
@@ -88,6 +88,7 @@ pub record Shaped (ns : List ℕ) (p : PlayerView) : Type 0 where
   pub most : length (p .windows) ≤ 16
   pub limitSome : 1 ≤ p .limit
   pub limitMost : p .limit ≤ 32
+  pub spacing : spacingFits (p .spacing) ≡ true
   pub journal : inShape ns ≡ true
   pub currentIn : p .current ≤ countOf ns
   pub windows : (w : ℕ) → w < length (p .windows) → WindowShaped (countOf ns) (p .current) (windowAt w p)
@@ -99,16 +100,18 @@ shaped ns p e =
     let e₁ = and-right (countFits (length (p .windows))) _ e in
     let b = and-left (limitFits (p .limit)) _ e₁ in
     let e₂ = and-right (limitFits (p .limit)) _ e₁ in
-    let e₃ = and-right (inShape ns) _ e₂ in
-    let e₄ = and-right (leb (p .current) (countOf ns)) _ e₃ in
+    let e₃ = and-right (spacingFits (p .spacing)) _ e₂ in
+    let e₄ = and-right (inShape ns) _ e₃ in
+    let e₅ = and-right (leb (p .current) (countOf ns)) _ e₄ in
     record {
       some = leb-true _ _ (and-left (leb 1 (length (p .windows))) _ a);
       most = leb-true _ _ (and-right (leb 1 (length (p .windows))) _ a);
       limitSome = leb-true _ _ (and-left (leb 1 (p .limit)) _ b);
       limitMost = leb-true _ _ (and-right (leb 1 (p .limit)) _ b);
-      journal = and-left (inShape ns) _ e₂;
-      currentIn = leb-true _ _ (and-left (leb (p .current) (countOf ns)) _ e₃);
-      windows = λ w h. windowShaped _ _ _ (all-at _ (p .windows) e₄ w noWindow h);
+      spacing = and-left (spacingFits (p .spacing)) _ e₂;
+      journal = and-left (inShape ns) _ e₃;
+      currentIn = leb-true _ _ (and-left (leb (p .current) (countOf ns)) _ e₄);
+      windows = λ w h. windowShaped _ _ _ (all-at _ (p .windows) e₅ w noWindow h);
     }
 
 pub shape-of : (ns : List ℕ) (p : PlayerView) → Shaped ns p → shape ns p ≡ true
@@ -116,5 +119,6 @@ unfolding shape
 shape-of ns p s =
     and-intro (and-intro (le-leb _ _ (s .some)) (le-leb _ _ (s .most)))
     (and-intro (and-intro (le-leb _ _ (s .limitSome)) (le-leb _ _ (s .limitMost)))
+    (and-intro (s .spacing)
     (and-intro (s .journal)
-    (and-intro (le-leb _ _ (s .currentIn)) (all-of _ (p .windows) noWindow (λ w h. windowShape-of _ _ _ (s .windows w h))))))
+    (and-intro (le-leb _ _ (s .currentIn)) (all-of _ (p .windows) noWindow (λ w h. windowShape-of _ _ _ (s .windows w h)))))))

@@ -2,53 +2,59 @@
 use Prim.Native.Nat.{ℕ, zero, suc, _≤_, _<_}
 use mathlib.Core.Path.{_≡_, refl, _∙_}
 use mathlib.Core.List.{List, [], _∷_, map}
-use mathlib.Core.Bool.{Bool, true, false, not, cond, _&&_, _||_}
+use mathlib.Core.Bool.{Bool, true, false, not, cond, _||_}
 use native.Mathlib.Omega.{arith}
 use borrow.Author.Tests.{eqb-true, leb-true}
 use lib.ListN.{length, getD, length-map}
 use lib.Dec.{leb, eqb, ltb}
-use Rattle.journal.specs.declared.Entry.{Entry}
-use Rattle.lists.specs.Cases.{cond-ap, and-left, and-right, not-and, not-or, not-leb}
+use Rattle.lists.specs.Cases.{cond-ap, and-left, and-right, not-and, not-leb}
 use Rattle.lists.specs.Refusal.{_when_, firstOf}
-use Rattle.journal.specs.Entry.{inShape, countOf, entriesOf, isFor}
-use Rattle.journal.specs.EntryLaws.{entriesOf-length}
+use Rattle.journal.specs.Entry.{inShape, countOf}
 use Rattle.lists.specs.All.{all}
 use Rattle.rules.specs.View.{PlayerView}
-use Rattle.rules.specs.Shape.{countFits, limitFits, shape}
+use Rattle.rules.specs.Shape.{countFits, limitFits, spacingFits, shape}
 use Rattle.rules.specs.Window.{Report, told, silence, unheard, startedBy}
-use Rattle.rules.specs.Rules.{Outcome, refuse, windowAt, areReports, spoken, least, startFits, startRule}
+use Rattle.rules.specs.Rules.{Outcome, refuse, windowAt, isStartReport, spoken, least, startFits, startRule}
 use Rattle.rules.specs.Shaped.{WindowShaped, shape-of}
 use Rattle.rules.specs.Parts.{queued-none, normal-shaped, here-shaped, away-shaped}
-use Rattle.rules.specs.Said.{areReports-le, areReports-least}
+use Rattle.rules.specs.Said.{reports-le, reports-least}
 
 -- ------------------------------------------------------------------------
--- the refusals in document 01's order
+-- the refusals in the papers' order
 
 -- 1: W, the batch limit or the journal outside its limits, or not exactly W reports
 abbrev pub startOutOfShape : List ℕ → ℕ → ℕ → List Report → Bool
 startOutOfShape ns count limit reports =
     not (countFits count) || (not (limitFits limit) || (not (inShape ns) || not (eqb (length reports) count)))
 
--- 13: some report is above L, or not 0 and not the index of an entry for its window; the first report is of window w
-abbrev pub someBadReport : List Entry → ℕ → List Report → Bool
-someBadReport j w [] = false
-someBadReport j w (told r ∷ rs) = (ltb (length j) r || (not (eqb r 0) && not (isFor j w r))) || someBadReport j (suc w) rs
-someBadReport j w (silence ∷ rs) = someBadReport j (suc w) rs
+-- 18: the spacing is 0, or above 65,535
+abbrev pub badSpacing : ℕ → Bool
+badSpacing e = ltb e 1 || ltb 65535 e
 
-someBadReport-is : (j : List Entry) (w : ℕ) (rs : List Report) → not (areReports j w rs) ≡ someBadReport j w rs
-unfolding areReports
-someBadReport-is j w [] = refl
-someBadReport-is j w (told r ∷ rs) = simp (not-and, not-leb, not-or, someBadReport-is j (suc w) rs)
-someBadReport-is j w (silence ∷ rs) = someBadReport-is j (suc w) rs
+-- 13: some report is above L, l here
+abbrev pub someBadReport : ℕ → List Report → Bool
+someBadReport l [] = false
+someBadReport l (told r ∷ rs) = ltb l r || someBadReport l rs
+someBadReport l (silence ∷ rs) = someBadReport l rs
 
--- A result to be read: 1, also if there are not exactly W reports; 13
-pub startRule-refusals : (ns : List ℕ) (count limit : ℕ) (reports : List Report) (p : PlayerView) →
-    startRule ns count limit reports p .answer ≡ firstOf
+someBadReport-is : (l : ℕ) (rs : List Report) → not (all (isStartReport l) rs) ≡ someBadReport l rs
+unfolding all
+someBadReport-is l [] = refl
+someBadReport-is l (told r ∷ rs) = simp (not-and, not-leb, someBadReport-is l rs)
+someBadReport-is l (silence ∷ rs) = someBadReport-is l rs
+
+badSpacing-is : (e : ℕ) → not (spacingFits e) ≡ badSpacing e
+badSpacing-is e = simp (not-and, not-leb)
+
+-- A result to be read: 1, also if there are not exactly W reports; 18; 13
+pub startRule-refusals : (ns : List ℕ) (count limit spacing : ℕ) (reports : List Report) (p : PlayerView) →
+    startRule ns count limit spacing reports p .answer ≡ firstOf
     (1 when startOutOfShape ns count limit reports
-    ∷ 13 when someBadReport (entriesOf ns) 0 reports
+    ∷ 18 when badSpacing spacing
+    ∷ 13 when someBadReport (countOf ns) reports
     ∷ [])
 unfolding startRule
-startRule-refusals ns count limit reports p = simp (cond-ap (λ (o : Outcome). o .answer), not-and, someBadReport-is)
+startRule-refusals ns count limit spacing reports p = simp (cond-ap (λ (o : Outcome). o .answer), badSpacing-is, not-and, someBadReport-is)
 
 -- ------------------------------------------------------------------------
 -- at one window
@@ -63,44 +69,53 @@ startedBy-shaped l c silence h = away-shaped (unheard l) (omega arith) (omega ar
 -- ------------------------------------------------------------------------
 -- the player after a Start that is answered 0
 
-abbrev pub startNext : ℕ → ℕ → List Report → PlayerView
-startNext l limit reports = record { limit = limit; current = least l (spoken reports); windows = map (startedBy l) reports }
+abbrev pub startNext : (l limit spacing : ℕ) → List Report → PlayerView
+startNext l limit spacing reports = record {
+  limit = limit;
+  spacing = spacing;
+  current = least l (spoken reports);
+  windows = map (startedBy l) reports;
+}
 
-pub startNext-at : (l limit : ℕ) (reports : List Report) (w : ℕ) → w < length reports →
-    windowAt w (startNext l limit reports) ≡ startedBy l (getD reports w silence)
-startNext-at l limit [] w h = absurd (omega arith)
-startNext-at l limit (r ∷ rs) zero h = refl
-startNext-at l limit (r ∷ rs) (suc w) h = startNext-at l limit rs w (omega arith)
+pub startNext-at : (l limit spacing : ℕ) (reports : List Report) (w : ℕ) → w < length reports →
+    windowAt w (startNext l limit spacing reports) ≡ startedBy l (getD reports w silence)
+startNext-at l limit spacing [] w h = absurd (omega arith)
+startNext-at l limit spacing (r ∷ rs) zero h = refl
+startNext-at l limit spacing (r ∷ rs) (suc w) h = startNext-at l limit spacing rs w (omega arith)
 
 -- ------------------------------------------------------------------------
 -- the rule
 
 -- what a Start that can be answered 0 is given
-pub record Startable (ns : List ℕ) (count limit : ℕ) (reports : List Report) : Type 0 where
+pub record Startable (ns : List ℕ) (count limit spacing : ℕ) (reports : List Report) : Type 0 where
   pub some : 1 ≤ count
   pub most : count ≤ 16
   pub limitSome : 1 ≤ limit
   pub limitMost : limit ≤ 32
   pub journal : inShape ns ≡ true
   pub each : length reports ≡ count
-  pub right : areReports (entriesOf ns) 0 reports ≡ true
+  pub spaced : spacingFits spacing ≡ true
+  pub right : all (isStartReport (countOf ns)) reports ≡ true
 
-pub record StartDone (ns : List ℕ) (count limit : ℕ) (reports : List Report) (o : Outcome) : Type 0 where
-  pub given : Startable ns count limit reports
-  pub next : o .next ≡ startNext (countOf ns) limit reports
+pub record StartDone (ns : List ℕ) (count limit spacing : ℕ) (reports : List Report) (o : Outcome) : Type 0 where
+  pub given : Startable ns count limit spacing reports
+  pub next : o .next ≡ startNext (countOf ns) limit spacing reports
   pub windows : length (o .next .windows) ≡ count
 
-module _ (ns : List ℕ) (count limit : ℕ) (reports : List Report) (p : PlayerView) where
-  pub startRule-cases : (P : Outcome → Type 0) → P (refuse 1 p) → P (refuse 13 p) →
-      (Startable ns count limit reports → P (record { answer = 0; next = startNext (countOf ns) limit reports })) →
-      P (startRule ns count limit reports p)
+module _ (ns : List ℕ) (count limit spacing : ℕ) (reports : List Report) (p : PlayerView) where
+  pub startRule-cases : (P : Outcome → Type 0) → P (refuse 1 p) → P (refuse 18 p) → P (refuse 13 p) →
+      (Startable ns count limit spacing reports → P (record { answer = 0; next = startNext (countOf ns) limit spacing reports })) →
+      P (startRule ns count limit spacing reports p)
   unfolding startRule
-  startRule-cases P one thirteen done =
-      go (startFits ns count limit (length reports)) refl (areReports (entriesOf ns) 0 reports) refl
+  startRule-cases P one eighteen thirteen done =
+      go (startFits ns count limit (length reports)) refl (spacingFits spacing) refl (all (isStartReport (countOf ns)) reports) refl
     where
-      go : (s : Bool) → startFits ns count limit (length reports) ≡ s → (b : Bool) → areReports (entriesOf ns) 0 reports ≡ b →
-          P (cond (not s) (refuse 1 p) (cond (not b) (refuse 13 p) (record { answer = 0; next = startNext (countOf ns) limit reports })))
-      go true s true b =
+      go : (s : Bool) → startFits ns count limit (length reports) ≡ s → (t : Bool) → spacingFits spacing ≡ t →
+          (b : Bool) → all (isStartReport (countOf ns)) reports ≡ b →
+          P (cond (not s) (refuse 1 p)
+          (cond (not t) (refuse 18 p)
+          (cond (not b) (refuse 13 p) (record { answer = 0; next = startNext (countOf ns) limit spacing reports }))))
+      go true s true t true b =
           let c = and-left (countFits count) _ s in
           let s₁ = and-right (countFits count) _ s in
           let l = and-left (limitFits limit) _ s₁ in
@@ -113,39 +128,45 @@ module _ (ns : List ℕ) (count limit : ℕ) (reports : List Report) (p : Player
             limitMost = leb-true _ _ (and-right (leb 1 limit) _ l);
             journal = and-left (inShape ns) _ s₂;
             each = eqb-true _ _ (and-right (inShape ns) _ s₂);
+            spaced = t;
             right = b;
           })
-      go true s false b = thirteen
-      go false s t b = one
+      go true s true t false b = thirteen
+      go true s false t u b = eighteen
+      go false s t u v b = one
 
-  pub startRule-done : startRule ns count limit reports p .answer ≡ 0 →
-      StartDone ns count limit reports (startRule ns count limit reports p)
+  pub startRule-done : startRule ns count limit spacing reports p .answer ≡ 0 →
+      StartDone ns count limit spacing reports (startRule ns count limit spacing reports p)
   startRule-done =
-      startRule-cases (λ o. o .answer ≡ 0 → StartDone ns count limit reports o) (λ e. absurd (omega arith)) (λ e. absurd (omega arith))
+      startRule-cases (λ o. o .answer ≡ 0 → StartDone ns count limit spacing reports o)
+      (λ e. absurd (omega arith))
+      (λ e. absurd (omega arith))
+      (λ e. absurd (omega arith))
       (λ g e. record { given = g; next = refl; windows = length-map reports (startedBy (countOf ns)) ∙ g .each })
 
-  pub startRule-refuses : (startRule ns count limit reports p .answer ≡ 0 → ⊥) → startRule ns count limit reports p .next ≡ p
+  pub startRule-refuses : (startRule ns count limit spacing reports p .answer ≡ 0 → ⊥) →
+      startRule ns count limit spacing reports p .next ≡ p
   startRule-refuses =
-      startRule-cases (λ o. (o .answer ≡ 0 → ⊥) → o .next ≡ p) (λ n. refl) (λ n. refl) (λ g n. absurd (n refl))
+      startRule-cases (λ o. (o .answer ≡ 0 → ⊥) → o .next ≡ p) (λ n. refl) (λ n. refl) (λ n. refl) (λ g n. absurd (n refl))
 
-pub start-shaped : (ns : List ℕ) (c b : ℕ) (rs : List Report) (p : PlayerView) → startRule ns c b rs p .answer ≡ 0 →
-    shape ns (startRule ns c b rs p .next) ≡ true
-start-shaped ns c b rs p e =
-    let d = startRule-done ns c b rs p e in
-    let g = d .given in
-    let l : ℕ = countOf ns in
-    let long : length (entriesOf ns) ≡ l = entriesOf-length ns in
-    let n : length (map (startedBy l) rs) ≡ length rs = length-map rs (startedBy l) in
-    rw (d .next)
-    (shape-of ns (startNext l b rs)
-    (record {
-      some = omega (arith, g .some, g .each);
-      most = omega (arith, g .most, g .each);
-      limitSome = g .limitSome;
-      limitMost = g .limitMost;
-      journal = g .journal;
-      currentIn = rw long at (areReports-least (entriesOf ns) 0 rs (g .right));
-      windows = λ w h.
-          rw (startNext-at l b rs w (rw n at h))
-          (startedBy-shaped l _ (getD rs w silence) (λ r is. rw long at (areReports-le (entriesOf ns) 0 rs (g .right) w r is)));
-    }))
+  pub start-shaped : startRule ns count limit spacing reports p .answer ≡ 0 →
+      shape ns (startRule ns count limit spacing reports p .next) ≡ true
+  start-shaped e =
+      let d = startRule-done e in
+      let g = d .given in
+      let l : ℕ = countOf ns in
+      let n : length (map (startedBy l) reports) ≡ length reports = length-map reports (startedBy l) in
+      rw (d .next)
+      (shape-of ns (startNext l limit spacing reports)
+      (record {
+        some = omega (arith, g .some, g .each);
+        most = omega (arith, g .most, g .each);
+        limitSome = g .limitSome;
+        limitMost = g .limitMost;
+        spacing = g .spaced;
+        journal = g .journal;
+        currentIn = reports-least l reports (g .right);
+        windows = λ w h.
+            rw (startNext-at l limit spacing reports w (rw n at h))
+            (startedBy-shaped l _ (getD reports w silence) (λ r is. reports-le l reports (g .right) w r is));
+      }))

@@ -36,8 +36,9 @@ noWindow = record {
   condition = suspended;
 }
 
--- the player: the batch limit, `current`, and the windows, W of them
+-- the player: the batch limit, the spacing E of document 02's W5, `current`, and the windows, W of them
 pub record PlayerView : Type 0 where
   pub limit : ℕ
+  pub spacing : ℕ
   pub current : ℕ
   pub windows : List WindowView

@@ -17,7 +17,7 @@ use Rattle.rules.specs.Parts.{normalQueued, catchQueued, lined, conditio
 use Rattle.rules.specs.Operate.{Lawful, decides-lawful, Effect, LawfulRule, operate-lawful}
 
 -- ------------------------------------------------------------------------
--- the refusals in document 01's order
+-- the refusals in the papers' order
 
 -- A result to be read: 1; 2; 3; 5; 8: line not busy
 pub writtenRule-refusals : (ns : List ℕ) (w : ℕ) (t : Term) (p : PlayerView) →

@@ -1,18 +1,19 @@
 -- A script that the stage plays is a run that demand 3 speaks of: its replies are the run's, and what the records hold at its end are
 -- leading parts.
 use Prim.Native.Nat.{ℕ, _<_}
-use mathlib.Core.Path.{_≡_, refl, sym, ap, ap₂, _∙_}
+use mathlib.Core.Path.{_≡_, refl, sym, ap, ap₂, subst⁻¹, _∙_}
 use mathlib.Core.List.{List, [], _∷_, map}
 use mathlib.Core.Bool.{true}
 use lib.ListN.{length, take}
+use Rattle.lists.specs.Keep.{keep-all}
 use Rattle.journal.specs.declared.Entry.{Entry}
 use Rattle.journal.specs.Entry.{inShape, entriesOf}
-use Rattle.journal.specs.Own.{own}
+use Rattle.journal.specs.Own.{own, isOwn}
 use Rattle.record.specs.Record.{newRecord, takeAll}
 use Rattle.rules.specs.View.{PlayerView}
-use Rattle.delivery.specs.World.{World, sideAt, opened, replies}
+use Rattle.delivery.specs.World.{Side, World, sideAt, opened, replies}
 use Rattle.delivery.specs.World as W
-use Rattle.delivery.specs.Statement.{firstStart}
+use Rattle.delivery.specs.Statement.{Leading, firstStart}
 use Rattle.delivery.specs.Demand3.{demand-3}
 use Rattle.script_line.specs.declared.Step.{Step}
 use Rattle.script.specs.declared.Stage.{Stage}
@@ -20,9 +21,10 @@ use Rattle.script.specs.declared.Reply.{Reply}
 use Rattle.script.specs.declared.Stepped.{Stepped}
 use Rattle.script.specs.Stage.{worldOf, forgotten, stepIn, stepsIn, replyOf, recordIn}
 use Rattle.script.specs.Promise.{Plays}
-use Rattle.script.specs.Opening.{openedBy, openedBy-journal, openedBy-done, openedBy-world}
+use Rattle.script.specs.Opening.{runSpacing, openedBy, openedBy-journal, openedBy-done, openedBy-world}
 use Rattle.script.specs.Worlds.{worldOf-forgotten, Staged, worldOf-side}
 use Rattle.script.specs.Room.{Roomy, roomy-step, roomy-opened}
+use Rattle.script.specs.Tickless.{taken-own}
 use Rattle.script.specs.Shown.{forgotten-at, shown-few, shown-plays}
 
 -- a script played from a stage to a stage, with its replies: each step gives what `Stage::step` promises, and is handed what the step
@@ -63,15 +65,21 @@ pub record Runs (first : World) (sts : List Step) (rs : List Reply) (t : Stage) 
   pub replied : map replyOf rs ≡ replies first (stepsIn first sts)
   pub records : (w : ℕ) → recordIn w t ≡ sideAt w (W.run first (stepsIn first sts)) .record′
 
--- the record of window w is a leading part's
+-- the record of window w is that of a window which has taken a leading part of its own entries, with ticks among them or without
 pub record LeadingRecord (j : List Entry) (w : ℕ) (s : Stage) : Type 0 where
+  pub side : Side
+  pub own : recordIn w s ≡ side .record′
+  pub leading : Leading j w side
+
+-- the record of window w is what Take makes of a new record lent the first k of its own entries
+pub record FoldedRecord (j : List Entry) (w : ℕ) (s : Stage) : Type 0 where
   pub k : ℕ
   pub folded : recordIn w s ≡ takeAll (take k (own j w)) newRecord
 
 module _ (ns : List ℕ) (count : ℕ) (before : PlayerView) (ok : openedBy ns count .ok ≡ true) (t : Stage) (sts : List Step) (rs : List Reply)
     (script : Script ns (openedBy ns count .stage) sts rs t) where
   abbrev first : World
-  first = opened (entriesOf ns) (firstStart before (entriesOf ns) count 2 0)
+  first = opened (entriesOf ns) (firstStart before (entriesOf ns) count 2 runSpacing 0)
 
   abbrev last : World
   last = W.run first (stepsIn first sts)
@@ -81,7 +89,7 @@ module _ (ns : List ℕ) (count : ℕ) (before : PlayerView) (ok : openedBy ns c
       script-follows ns (openedBy-journal ns count before ok) first
       (record {
         world = sym (worldOf-forgotten (entriesOf ns) (openedBy ns count .stage)) ∙ ap forgotten (openedBy-world ns count before ok);
-        roomy = roomy-opened before (entriesOf ns) count (openedBy-done ns count before ok);
+        roomy = roomy-opened before (entriesOf ns) count runSpacing (openedBy-done ns count before ok);
         records = refl;
         lines = refl;
       })
@@ -103,15 +111,24 @@ module _ (ns : List ℕ) (count : ℕ) (before : PlayerView) (ok : openedBy ns c
             ap (λ p. p .record′) (sym (worldOf-side (entriesOf ns) t held w) ∙ ap (sideAt w) (end .world) ∙ forgotten-at w last);
       }
 
-  -- A result to be read: whatever the script, each window's record is what Take makes of a new record lent the first k of its own entries,
-  -- for some k
-  pub script-delivers : (w : ℕ) → w < count → LeadingRecord (entriesOf ns) w t
+  leading-at : (w : ℕ) → w < count → Leading (entriesOf ns) w (sideAt w last)
   unfolding worldOf forgotten
-  script-delivers w below =
-      let journal : entriesOf ns ≡ last .journal = ap (λ x. x .journal) (followed .shows .world) in
-      let leading = demand-3 before (entriesOf ns) count 2 0 (stepsIn first sts) (openedBy-done ns count before ok) .leading w below in
+  leading-at w below =
+      subst⁻¹ (λ j. Leading j w (sideAt w last)) (ap (λ x. x .journal) (followed .shows .world))
+      (demand-3 before (entriesOf ns) count 2 runSpacing 0 (stepsIn first sts) (openedBy-done ns count before ok) .leading w below)
+
+  -- A result to be read: whatever the script, each window's record is a leading part's
+  pub script-delivers : (w : ℕ) → w < count → LeadingRecord (entriesOf ns) w t
+  script-delivers w below = record { side = sideAt w last; own = script-runs .records w; leading = leading-at w below }
+
+  -- A result to be read: with fewer entries than the spacing no window gets a tick, and each window's record is what Take makes of a new
+  -- record lent the first k of its own entries, for some k
+  pub script-folds : length (entriesOf ns) < runSpacing → (w : ℕ) → w < count → FoldedRecord (entriesOf ns) w t
+  script-folds short w below =
+      let leading = leading-at w below in
+      let done = openedBy-done ns count before ok in
+      let whole = keep-all (isOwn w) _ (taken-own before (entriesOf ns) count runSpacing done short sts w below) in
       record {
         k = leading .k;
-        folded =
-            script-runs .records w ∙ leading .folded ∙ ap (λ j. takeAll (take (leading .k) (own j w)) newRecord) (sym journal);
+        folded = script-runs .records w ∙ leading .folded ∙ ap (λ x. takeAll x newRecord) (sym whole ∙ leading .list);
       }

@@ -13,5 +13,6 @@ pub mod Early
 pub mod Played
 pub mod Opening
 pub mod Room
+pub mod Tickless
 pub mod Shown
 pub mod Delivered

@@ -4,23 +4,21 @@
 use Prim.Native.Nat.{ℕ, suc, _+_, _*_, _≤_, _<_}
 use mathlib.Core.Path.{_≡_, refl, sym, ap, subst, subst⁻¹, _∙_}
 use mathlib.Core.List.{List, [], _∷_, _++_, map-append, append-assoc}
-use mathlib.Core.Bool.{Bool, true, false, not, cond, true≢false, false≢true}
+use mathlib.Core.Bool.{Bool, true, false, not, cond, true≢false}
 use native.Mathlib.Omega.{arith}
 use borrow.Author.Tests.{not-true}
 use lib.ListN.{length, length-append, length-map, List·getD-map}
-use lib.Dec.{eqb, ltb}
 use Rattle.journal.specs.declared.Entry.{Entry}
 use Rattle.lists.specs.Set.{getD-set-each}
 use Rattle.lists.specs.Elem.{lastOr}
-use Rattle.journal.specs.Entry.{numbersOf, entriesOf}
+use Rattle.journal.specs.Entry.{numbersOf}
 use Rattle.rules.specs.declared.Term.{Term}
 use Rattle.rules.specs.View.{WindowView, PlayerView, noWindow}
-use Rattle.rules.specs.Window.{isSuspended, wanted, mainAt, batchOf, acknowledged, sendAt, joinAt}
-use Rattle.rules.specs.Rules.{Outcome, catchRule, writtenRule, ackRule, dropRule, joinRule, sendRule}
-use Rattle.rules.specs.Offers.{operate-limit, mainAt-either, mainRule-cases, startRule-done, fetched-batches, batchOf-most, batchOf-untouched, SentOut, launched-is}
-use Rattle.rules.specs.Offers.{acknowledged-oldest}
-use Rattle.delivery.specs.World.{Sent, Ack, Side, World, noSide, sideAt, numbersIn, playerIn, withView, withLines, withPlayer, withSide, onLine}
-use Rattle.delivery.specs.World.{takeFront, answered, calledThen, launch, takeAtLine, ackAtLine, cleared, newSide, opened}
+use Rattle.rules.specs.Window.{isSuspended, wanted, mainAt, batchOf, acknowledged}
+use Rattle.rules.specs.Offers.{mainAt-either, mainRule-cases, startRule-done, fetched-batches, batchOf-most, batchOf-untouched}
+use Rattle.rules.specs.Offers.{SentOut, launched-is, acknowledged-oldest}
+use Rattle.delivery.specs.World.{Sent, Ack, Side, World, noSide, sideAt, numbersIn, playerIn, withView, withLines, withPlayer, withSide}
+use Rattle.delivery.specs.World.{onLine, takeFront, newSide, opened}
 use Rattle.delivery.specs.World as W
 use Rattle.delivery.specs.Statement.{newReports, firstStart}
 use Rattle.delivery.specs.Invariant.{backIndices, endsOf, Inv, Reached}
@@ -55,12 +53,12 @@ pairs-append _ m none q = q
 pairs-append _ m (one {l = l} e p) q = one e (pairs-append l m p q)
 pairs-append _ m (two {l = l} e f p) q = two e f (pairs-append l m p q)
 
-pub pairs-batch : (j : List Entry) (t : Term) (is : List ℕ) → length is ≤ 2 → Pairs (onLine j t is)
+pub pairs-batch : (j : List Entry) (w : ℕ) (t : Term) (is : List ℕ) → length is ≤ 2 → Pairs (onLine j w t is)
 unfolding onLine
-pairs-batch j t [] h = none
-pairs-batch j t (i ∷ []) h = one refl none
-pairs-batch j t (i ∷ k ∷ []) h = two refl refl none
-pairs-batch j t (i ∷ k ∷ n ∷ is) h = absurd (omega arith)
+pairs-batch j w t [] h = none
+pairs-batch j w t (i ∷ []) h = one refl none
+pairs-batch j w t (i ∷ k ∷ []) h = two refl refl none
+pairs-batch j w t (i ∷ k ∷ n ∷ is) h = absurd (omega arith)
 
 pub pairs-length : (l : List Sent) → Pairs l → length l ≤ 2 * length (endsOf l)
 unfolding endsOf
@@ -127,22 +125,22 @@ acked-roomy a rest p front inv here r =
     }
 
 -- one batch more, of at most two entries
-sent-roomy : (j : List Entry) (limit size : ℕ) (p : Side) → limit ≤ 2 → SentOut limit size (p .view) → RoomySide p →
-    RoomySide (launchedSide j (batchOf limit (p .view)) p)
-sent-roomy j limit size p few out r =
+sent-roomy : (j : List Entry) (w limit size : ℕ) (p : Side) → limit ≤ 2 → SentOut limit size (p .view) → RoomySide p →
+    RoomySide (launchedSide j w (batchOf limit (p .view)) p)
+sent-roomy j w limit size p few out r =
     let is : List ℕ = batchOf limit (p .view) .indices in
-    let new : List Sent = onLine j (p .view .term) is in
+    let new : List Sent = onLine j w (p .view .term) is in
     let was : p .view .batches ≡ backIndices (p .back) ++ endsOf (p .line) = r .unacked (out .here) in
     let held : length (p .view .batches) ≡ length (p .back) + length (endsOf (p .line))
     = ap length was
     ∙ length-append (backIndices (p .back)) (endsOf (p .line))
     ∙ ap (λ n. n + length (endsOf (p .line))) (length-map (p .back) (λ a. a .index)) in
     let more : endsOf (p .line ++ new) ≡ endsOf (p .line) ++ (lastOr 0 is ∷ [])
-    = endsOf-append (p .line) new ∙ ap (λ l. endsOf (p .line) ++ l) (onLine-ends j (p .view .term) is (out .some)) in
+    = endsOf-append (p .line) new ∙ ap (λ l. endsOf (p .line) ++ l) (onLine-ends j w (p .view .term) is (out .some)) in
     let ends : length (endsOf (p .line ++ new)) ≡ length (endsOf (p .line)) + 1
     = ap length more ∙ length-append (endsOf (p .line)) (lastOr 0 is ∷ []) in
     record {
-      pairs = pairs-append (p .line) new (r .pairs) (pairs-batch j (p .view .term) is (omega (arith, batchOf-most limit (p .view))));
+      pairs = pairs-append (p .line) new (r .pairs) (pairs-batch j w (p .view .term) is (omega (arith, batchOf-most limit (p .view))));
       unacked = λ h.
           ap (λ x. x .batches) (launched-is is (batchOf limit (p .view) .rest))
           ∙ ap (λ l. l ++ (lastOr 0 is ∷ [])) (batchOf-untouched limit (p .view) .batches ∙ was)
@@ -152,13 +150,13 @@ sent-roomy j limit size p few out r =
     }
 
 -- Main changes no line and no batch
-main-roomy : (j : List Entry) (w i : ℕ) (p : Side) → RoomySide p → RoomySide (withView (mainAt j w i (p .view)) p)
-main-roomy j w i p r = record {
+main-roomy : (j : List Entry) (w e i : ℕ) (p : Side) → RoomySide p → RoomySide (withView (mainAt j w e i (p .view)) p)
+main-roomy j w e i p r = record {
   pairs = r .pairs;
   unacked =
-      mainAt-either j w i (p .view) (λ v. isSuspended (v .condition) ≡ false → v .batches ≡ backIndices (p .back) ++ endsOf (p .line))
+      mainAt-either j w e i (p .view) (λ v. isSuspended (v .condition) ≡ false → v .batches ≡ backIndices (p .back) ++ endsOf (p .line))
       (r .unacked) (λ here h. r .unacked here) (λ e h. r .unacked (ap isSuspended e)) (λ n end e h. r .unacked (ap isSuspended e))
-      (λ end e h. r .unacked (ap isSuspended e));
+      (λ end e h. r .unacked (ap isSuspended e)) (λ t h. r .unacked (ap isSuspended (t .condition)));
   batches = r .batches;
 }
 
@@ -176,7 +174,7 @@ scripted (W.ack w) = true
 scripted (W.late-ack w t i) = false
 scripted (W.drop w) = true
 scripted (W.join w) = true
-scripted (W.start b silent) = false
+scripted (W.start b e silent) = false
 scripted (W.append e) = false
 
 pub stepIn-scripted : (wd : World) (s : Step) → scripted (stepIn wd s) ≡ true
@@ -205,7 +203,7 @@ worked-roomy j c limit w s reply p p′ script few inv r (took acks is x rest fr
     let last : acks ≡ false = not-true acks (sym (ap scripted is) ∙ script) in
     rw (e, last) (took-roomy x rest p front r)
 worked-roomy j c limit w s reply p p′ script few inv r (acked is x rest front d e) = rw e (acked-roomy x rest p front inv (d .here) r)
-worked-roomy j c limit w s reply p p′ script few inv r (sent out is d e) = rw e (sent-roomy j limit (length out) p few d r)
+worked-roomy j c limit w s reply p p′ script few inv r (sent out is d e) = rw e (sent-roomy j w limit (length out) p few d r)
 
 -- a side replaced
 placed-roomy : (wd : World) (v : ℕ) (p : Side) → v < length (wd .sides) → ((w : ℕ) → w < length (wd .sides) → RoomySide (sideAt w wd)) →
@@ -229,7 +227,7 @@ module _ (wd : World) (s : W.Step) (is : scripted s ≡ true) (r : Roomy wd) whe
   roomy-facts (working quiet (mains i same done m)) =
       λ w h.
       subst⁻¹ RoomySide (m .each w (omega (arith, m .count)))
-      (main-roomy (wd .journal) w (suc (wd .current)) (sideAt w wd) (r .each w (omega (arith, m .count))))
+      (main-roomy (wd .journal) w (wd .spacing) (suc (wd .current)) (sideAt w wd) (r .each w (omega (arith, m .count))))
   roomy-facts (working quiet (works v l p work e shaped)) =
       after-side v p _ l e
       (worked-roomy (wd .journal) (wd .current) (wd .limit) v s _ (sideAt v wd) p is (r .limit) (r .reached .each v l) (r .each v l) work)
@@ -238,66 +236,48 @@ module _ (wd : World) (s : W.Step) (is : scripted s ≡ true) (r : Roomy wd) whe
       after-side v _ _ l e (record { pairs = q .pairs; unacked = λ h. absurd (true≢false h); batches = q .batches })
   roomy-facts (joining v same done l away e shaped) =
       after-side v _ _ l e (record { pairs = none; unacked = λ h. r .reached .each v l .unacked .noBatches away; batches = omega arith })
-  roomy-facts (starting b silent same done k) = absurd (true≢false (sym is ∙ ap scripted same))
+  roomy-facts (starting b e silent same done k) = absurd (true≢false (sym is ∙ ap scripted same))
   roomy-facts (appending x same done few e) = absurd (true≢false (sym is ∙ ap scripted same))
 
 -- ------------------------------------------------------------------------
--- the batch limit
+-- what no step of a script changes
 
-calledThen-limit : (o : Outcome) (f : World → World) (wd : World) → ((x : World) → f x .limit ≡ x .limit) →
-    calledThen o f wd .world .limit ≡ o .next .limit
-unfolding withPlayer
-calledThen-limit o f wd same = by (eqb (o .answer) 0)
-  where
-    by : (b : Bool) → cond b (f (withPlayer (o .next) wd)) (withPlayer (o .next) wd) .limit ≡ o .next .limit
-    by true = same (withPlayer (o .next) wd)
-    by false = refl
+pub record Keeps (wd wd′ : World) : Type 0 where
+  pub journal : wd′ .journal ≡ wd .journal
+  pub limit : wd′ .limit ≡ wd .limit
+  pub spacing : wd′ .spacing ≡ wd .spacing
 
-take-limit : (w : ℕ) (acks : Bool) (l : List Sent) (wd : World) (b : Bool) →
-    cond b (takeAtLine w acks l wd) (W.stays (answered 2) wd) .world .limit ≡ wd .limit
-take-limit w acks l wd false = refl
-take-limit w acks [] wd true = refl
-take-limit w acks (s ∷ l) wd true = refl
+main-keeps : (wd : World) (i : ℕ) → Keeps wd (W.step (W.main i) wd .world)
+unfolding W.step withPlayer
+main-keeps wd i =
+    mainRule-cases (numbersIn wd) i (playerIn wd) (λ o. Keeps wd (withPlayer (o .next) wd))
+    (record { journal = refl; limit = refl; spacing = refl }) (record { journal = refl; limit = refl; spacing = refl })
+    (record { journal = refl; limit = refl; spacing = refl }) (λ s h n. record { journal = refl; limit = refl; spacing = refl })
 
-ack-limit : (w : ℕ) (l : List Ack) (wd : World) (b : Bool) → cond b (ackAtLine w l wd) (W.stays (answered 2) wd) .world .limit ≡ wd .limit
-unfolding ackRule
-ack-limit w l wd false = refl
-ack-limit w [] wd true = refl
-ack-limit w (a ∷ l) wd true =
-    calledThen-limit (ackRule (numbersIn wd) w (a .term) (a .index) (playerIn wd))
-    (λ x. withSide w (withLines (sideAt w x .line) l (sideAt w x)) x) wd (λ x. refl)
-    ∙ operate-limit (numbersIn wd) w _ (playerIn wd)
+side-keeps : (wd : World) (w : ℕ) (p : Side) → Keeps wd (withSide w p wd)
+side-keeps wd w p = record { journal = refl; limit = refl; spacing = refl }
 
-step-limit : (wd : World) (s : W.Step) → scripted s ≡ true → W.step s wd .world .limit ≡ wd .limit
-unfolding W.step withPlayer catchRule writtenRule dropRule joinRule sendRule
-step-limit wd (W.main i) e =
-    mainRule-cases (numbersIn wd) i (playerIn wd) (λ o. o .next .limit ≡ wd .limit) refl refl refl (λ s h n. refl)
-step-limit wd (W.catch w t i) e = operate-limit (numbersIn wd) w _ (playerIn wd)
-step-limit wd (W.written w t) e = operate-limit (numbersIn wd) w _ (playerIn wd)
-step-limit wd (W.send w out) e =
-    calledThen-limit (sendRule (numbersIn wd) w (length out) (playerIn wd)) (launch w wd) wd (λ x. refl)
-    ∙ operate-limit (numbersIn wd) w (λ v. sendAt (wd .limit) (length out) v) (playerIn wd)
-step-limit wd (W.take w acks) e = take-limit w acks (sideAt w wd .line) wd (ltb w (length (wd .sides)))
-step-limit wd (W.ack w) e = ack-limit w (sideAt w wd .back) wd (ltb w (length (wd .sides)))
-step-limit wd (W.late-ack w t i) e = absurd (false≢true e)
-step-limit wd (W.drop w) e = operate-limit (numbersIn wd) w _ (playerIn wd)
-step-limit wd (W.join w) e =
-    calledThen-limit (joinRule (numbersIn wd) w (sideAt w wd .record′ .last .0) (playerIn wd))
-    (λ x. withSide w (cleared (sideAt w x)) x) wd (λ x. refl)
-    ∙ operate-limit (numbersIn wd) w (λ v. joinAt (entriesOf (numbersIn wd)) w (wd .current) (sideAt w wd .record′ .last .0) v)
-    (playerIn wd)
-step-limit wd (W.start b silent) e = absurd (false≢true e)
-step-limit wd (W.append x) e = absurd (false≢true e)
+pub step-keeps : (wd : World) (s : W.Step) → scripted s ≡ true → Facts s wd → Keeps wd (W.step s wd .world)
+step-keeps wd s is (working quiet (stays idle e)) = subst⁻¹ (Keeps wd) e (record { journal = refl; limit = refl; spacing = refl })
+step-keeps wd s is (working quiet (mains i same done m)) = subst⁻¹ (λ s. Keeps wd (W.step s wd .world)) same (main-keeps wd i)
+step-keeps wd s is (working quiet (works v l p work e shaped)) = subst⁻¹ (Keeps wd) e (side-keeps wd v p)
+step-keeps wd s is (dropping v same done l e shaped) = subst⁻¹ (Keeps wd) e (side-keeps wd v _)
+step-keeps wd s is (joining v same done l away e shaped) = subst⁻¹ (Keeps wd) e (side-keeps wd v _)
+step-keeps wd s is (starting b e silent same done k) = absurd (true≢false (sym is ∙ ap scripted same))
+step-keeps wd s is (appending x same done few e) = absurd (true≢false (sym is ∙ ap scripted same))
 
 -- ------------------------------------------------------------------------
 -- a script
 
 pub roomy-step : (wd : World) (s : Step) → Roomy wd → Roomy (W.step (stepIn wd s) wd .world)
-roomy-step wd s r = record {
-  reached = reached-step wd (stepIn wd s) (r .reached);
-  limit = rw (step-limit wd (stepIn wd s) (stepIn-scripted wd s)) (r .limit);
-  each = roomy-facts wd (stepIn wd s) (stepIn-scripted wd s) r (step-facts wd (r .reached .inShape) (stepIn wd s));
-}
+roomy-step wd s r =
+    let is : scripted (stepIn wd s) ≡ true = stepIn-scripted wd s in
+    let facts : Facts (stepIn wd s) wd = step-facts wd (r .reached .inShape) (stepIn wd s) in
+    record {
+      reached = reached-step wd (stepIn wd s) (r .reached);
+      limit = rw (step-keeps wd (stepIn wd s) is facts .limit) (r .limit);
+      each = roomy-facts wd (stepIn wd s) is r facts;
+    }
 
 pub roomy-run : (wd : World) (ss : List Step) → Roomy wd → Roomy (W.run wd (stepsIn wd ss))
 unfolding stepsIn W.run
@@ -309,22 +289,24 @@ unfolding endsOf
 roomy-new v inv = record { pairs = none; unacked = λ h. unacked-none (inv .unacked); batches = omega arith }
 
 -- the opening: a reachable world with the batch limit 2 and empty lines
-pub roomy-opened : (before : PlayerView) (j : List Entry) (count : ℕ) → firstStart before j count 2 0 .answer ≡ 0 →
-    Roomy (opened j (firstStart before j count 2 0))
+pub roomy-opened : (before : PlayerView) (j : List Entry) (count spacing : ℕ) → firstStart before j count 2 spacing 0 .answer ≡ 0 →
+    Roomy (opened j (firstStart before j count 2 spacing 0))
 unfolding opened
-roomy-opened before j count done = record {
-  reached = opened-reached before j count 2 0 done;
+roomy-opened before j count spacing done = record {
+  reached = opened-reached before j count 2 spacing 0 done;
   limit =
-      let d : firstStart before j count 2 0 .next .limit ≡ 2
-      = ap (λ q. q .limit) (startRule-done (numbersOf j) count 2 (newReports 0 count) before done .next) in
+      let d : firstStart before j count 2 spacing 0 .next .limit ≡ 2
+      = ap (λ q. q .limit) (startRule-done (numbersOf j) count 2 spacing (newReports 0 count) before done .next) in
       rw d (omega arith);
   each = λ w h.
-      let is = List·getD-map newSide (firstStart before j count 2 0 .next .windows) w noWindow in
-      subst⁻¹ RoomySide is (roomy-new _ (subst (Inv j _ w) is (opened-reached before j count 2 0 done .each w h)));
+      let is = List·getD-map newSide (firstStart before j count 2 spacing 0 .next .windows) w noWindow in
+      subst⁻¹ RoomySide is (roomy-new _ (subst (Inv j _ w) is (opened-reached before j count 2 spacing 0 done .each w h)));
 }
 
 -- in every world that a script reaches from there, each line has room
-pub room : (before : PlayerView) (j : List Entry) (count : ℕ) → firstStart before j count 2 0 .answer ≡ 0 → (ss : List Step) →
-    let first : World = opened j (firstStart before j count 2 0) in
+pub room : (before : PlayerView) (j : List Entry) (count spacing : ℕ) → firstStart before j count 2 spacing 0 .answer ≡ 0 →
+    (ss : List Step) →
+    let first : World = opened j (firstStart before j count 2 spacing 0) in
     Roomy (W.run first (stepsIn first ss))
-room before j count done ss = roomy-run (opened j (firstStart before j count 2 0)) ss (roomy-opened before j count done)
+room before j count spacing done ss =
+    roomy-run (opened j (firstStart before j count 2 spacing 0)) ss (roomy-opened before j count spacing done)

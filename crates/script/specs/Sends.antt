@@ -14,8 +14,8 @@ use Rattle.lists.specs.All.{all, queuedIn}
 use Rattle.rules.specs.declared.Term.{Term}
 use Rattle.rules.specs.View.{PlayerView}
 use Rattle.rules.specs.Shape.{isEmpty}
-use Rattle.rules.specs.Offers.{shaped, batchOf-most, batchOf-queued, sendRule-done}
-use Rattle.rules.specs.Rules.{windowAt, sendRule, batchNumbers, batchAt, sendOutput}
+use Rattle.rules.specs.Offers.{shaped, batchOf-most, batchOf-queued, sentFor-index, sendRule-done}
+use Rattle.rules.specs.Rules.{windowAt, sendRule, sentFor, batchNumbers, batchAt, sendOutput}
 use Rattle.player.specs.declared.Played.{Played}
 use Rattle.player.specs.View.{playerOf}
 use Rattle.player.specs.Promise.{Meets}
@@ -38,26 +38,26 @@ use Rattle.script.specs.Settled.{line-here, back-here, lines-side, turne
 -- sendOutput
 
 -- an output of ten numbers that starts with those of a batch of one or two shows that batch
-batch-shown : (j : List Entry) (l : ℕ) (t : Term) (is : List ℕ) → isEmpty is ≡ false → length is ≤ 2 → all (queuedIn l) is ≡ true →
-    map worldSent (batchShown (batchNumbers j is ++ drop (length (batchNumbers j is)) (replicate 10 0)) t) ≡ onLine j t is
+batch-shown : (j : List Entry) (w l : ℕ) (t : Term) (is : List ℕ) → isEmpty is ≡ false → length is ≤ 2 → all (queuedIn l) is ≡ true →
+    map worldSent (batchShown (batchNumbers j w is ++ drop (length (batchNumbers j w is)) (replicate 10 0)) t) ≡ onLine j w t is
 unfolding batchNumbers all onLine
-batch-shown j l t [] some few each = absurd (true≢false some)
-batch-shown j l t (a ∷ []) some few each = refl
-batch-shown j l t (a ∷ b ∷ []) some few each =
+batch-shown j w l t [] some few each = absurd (true≢false some)
+batch-shown j w l t (a ∷ []) some few each = refl
+batch-shown j w l t (a ∷ b ∷ []) some few each =
     let second = and-left (queuedIn l b) _ (and-right (queuedIn l a) _ each) in
     let positive = leb-true 1 b (and-left (leb 1 b) _ second) in
-    rw (ne-eqb b 0 (λ z. omega arith))
-batch-shown j l t (a ∷ b ∷ c ∷ is) some few each = absurd (omega arith)
+    rw (ne-eqb (sentFor j w b .index) 0 (λ z. omega (arith, sentFor-index j w b)))
+batch-shown j w l t (a ∷ b ∷ c ∷ is) some few each = absurd (omega arith)
 
 -- Send answered 0 has written the numbers of the entries that the world puts on the line
 pub sendOutput-shown : (ns : List ℕ) (w : ℕ) (p : PlayerView) (t : Term) → sendRule ns w 10 p .answer ≡ 0 →
-    map worldSent (batchShown (sendOutput ns w (replicate 10 0) p) t) ≡ onLine (entriesOf ns) t (batchAt w p)
+    map worldSent (batchShown (sendOutput ns w (replicate 10 0) p) t) ≡ onLine (entriesOf ns) w t (batchAt w p)
 unfolding sendOutput
 sendOutput-shown ns w p t z =
     let d = sendRule-done ns w 10 p z in
     let v = shaped ns p (d .shaped) .windows w (d .within) in
     rw (eq-eqb _ 0 z)
-    (batch-shown (entriesOf ns) (countOf ns) t (batchAt w p) (d .turn .some)
+    (batch-shown (entriesOf ns) w (countOf ns) t (batchAt w p) (d .turn .some)
     (omega (arith, batchOf-most (p .limit) (windowAt w p), d .turn .room))
     (batchOf-queued (queuedIn (countOf ns)) (p .limit) (windowAt w p) (v .normalIn) (v .catchIn)))
 
@@ -76,7 +76,7 @@ module _ (ns : List ℕ) (s : Stage) (h : Staged s) (e : inShape ns ≡ true) (w
 
   -- what the world puts on the line
   abbrev batch : List W.Sent
-  batch = onLine j (sideAt w wd .view .term) (batchAt w (playerIn wd))
+  batch = onLine j w (sideAt w wd .view .term) (batchAt w (playerIn wd))
 
   abbrev pub withBatch : Side → Side
   withBatch p = withLines (p .line ++ batch) (p .back) p
@@ -97,7 +97,7 @@ module _ (ns : List ℕ) (s : Stage) (h : Staged s) (e : inShape ns ≡ true) (w
       let shown : map worldSent (batchShown out t) ≡ batch
       = ap (λ out. map worldSent (batchShown out t)) written
       ∙ sendOutput-shown ns w player t z
-      ∙ ap₂ (onLine j) (sym (ap (λ p. p .view .term) (worldOf-side j s h w))) (sym (ap (batchAt w) (worldOf-player j s h))) in
+      ∙ ap₂ (onLine j w) (sym (ap (λ p. p .view .term) (worldOf-side j s h w))) (sym (ap (batchAt w) (worldOf-player j s h))) in
       turned-steps j s h (At Send w) w r _ x withBatch send-calls k done (own .is)
       (record {
         within = omega (arith, d .within, playerOf-count (s .player));

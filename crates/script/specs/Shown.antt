@@ -15,10 +15,10 @@ use Rattle.record.specs.Record.{takeNumbers}
 use Rattle.rules.specs.View.{PlayerView}
 use Rattle.rules.specs.Offers.{shaped}
 use Rattle.rules.specs.Rules.{Outcome, mainRule, catchRule, writtenRule, ackRule, dropRule, joinRule, sendRule, batchAt}
-use Rattle.delivery.specs.World.{Sent, Ack, Side, World, noSide, sideAt, numbersIn, playerIn, withLines, withPlayer, withSide, onLine}
-use Rattle.delivery.specs.World.{takeFront, answered, called, calledThen, launch, takeAtLine, ackAtLine, cleared}
+use Rattle.delivery.specs.World.{Sent, Ack, Side, World, noSide, sideAt, numbersIn, playerIn, withLines, withPlayer, withSides, withSide}
+use Rattle.delivery.specs.World.{onLine, takeFront, answered, called, calledThen, launch, takeAtLine, ackAtLine, cleared}
 use Rattle.delivery.specs.World as W
-use Rattle.delivery.specs.Worlds.{windows-in}
+use Rattle.delivery.specs.Worlds.{windows-in, withWindows}
 use Rattle.script.specs.declared.Stage.{Stage}
 use Rattle.script_line.specs.declared.Step.{Step}
 use Rattle.script_line.specs.declared.Step.the-variants.{Main, At}
@@ -45,12 +45,12 @@ forget-twice (p ∷ ps) = ap (λ l. forget p ∷ l) (forget-twice ps)
 
 forgotten-in : (wd : World) → playerIn (forgotten wd) ≡ playerIn wd
 unfolding forgotten
-forgotten-in wd = ap (λ vs. record { limit = wd .limit; current = wd .current; windows = vs }) (views-forget (wd .sides))
+forgotten-in wd = ap (withWindows (playerIn wd)) (views-forget (wd .sides))
 
 forgotten-twice : (wd : World) → forgotten (forgotten wd) ≡ forgotten wd
 unfolding forgotten
 forgotten-twice wd =
-    ap (λ ps. record { journal = wd .journal; limit = wd .limit; current = wd .current; sides = ps }) (forget-twice (wd .sides))
+    ap (λ ps. withSides ps wd) (forget-twice (wd .sides))
 
 pub forgotten-at : (w : ℕ) (wd : World) → sideAt w (forgotten wd) ≡ forget (sideAt w wd)
 unfolding forgotten
@@ -145,10 +145,10 @@ step-alike wd (At Send w) =
     alike-then (λ p. sendRule (numbersIn wd) w 10 p) (launch w (forgotten wd)) (launch w wd) wd
     (λ x.
     side-alike w
-    (λ p. withLines (p .line ++ onLine (wd .journal) (sideAt w (forgotten wd) .view .term) (batchAt w (playerIn (forgotten wd))))
+    (λ p. withLines (p .line ++ onLine (wd .journal) w (sideAt w (forgotten wd) .view .term) (batchAt w (playerIn (forgotten wd))))
     (p .back) p)
-    (λ p. withLines (p .line ++ onLine (wd .journal) (sideAt w wd .view .term) (batchAt w (playerIn wd))) (p .back) p) x
-    (ap₂ (λ t is. forget (withLines (sideAt w x .line ++ onLine (wd .journal) t is) (sideAt w x .back) (sideAt w x)))
+    (λ p. withLines (p .line ++ onLine (wd .journal) w (sideAt w wd .view .term) (batchAt w (playerIn wd))) (p .back) p) x
+    (ap₂ (λ t is. forget (withLines (sideAt w x .line ++ onLine (wd .journal) w t is) (sideAt w x .back) (sideAt w x)))
     (ap (λ p. p .view .term) (forgotten-at w wd)) (ap (batchAt w) (forgotten-in wd))))
 step-alike wd (At Written w) =
     subst⁻¹ (λ x. Alike (W.step (W.written w (x .view .term)) (forgotten wd)) (W.step (stepIn wd (At Written w)) wd)) (forgotten-at w wd)

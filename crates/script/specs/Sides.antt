@@ -7,10 +7,10 @@ use lib.ListN.{length, getD, set}
 use Rattle.record.specs.declared.Record.{Record}
 use Rattle.record.specs.Record.{newRecord}
 use Rattle.rules.specs.View.{WindowView, PlayerView, noWindow}
-use Rattle.delivery.specs.World.{Side, World, noSide, withView, withViews, withPlayer, withSide}
+use Rattle.delivery.specs.World.{Side, World, noSide, withView, withViews, withPlayer, withSides, withSide}
 use Rattle.script.specs.declared.line.Line.{Line}
 use Rattle.script.specs.Line.{freshLine}
-use Rattle.script.specs.Stage.{sideOf, sidesOf, forget, forgotten}
+use Rattle.script.specs.Stage.{sideOf, sidesOf, worldWith, forget, forgotten}
 
 -- ------------------------------------------------------------------------
 -- sidesOf
@@ -86,10 +86,9 @@ set-forget (x ∷ ps) (suc w) p = ap (λ l. forget x ∷ l) (set-forget ps w p)
 pub forgotten-player : (q : PlayerView) (wd : World) → forgotten (withPlayer q wd) ≡ withPlayer q (forgotten wd)
 unfolding forgotten withPlayer
 forgotten-player q wd =
-    ap (λ ps. record { journal = wd .journal; limit = q .limit; current = q .current; sides = ps })
-    (withViews-forget (q .windows) (wd .sides))
+    ap (worldWith (wd .journal) q) (withViews-forget (q .windows) (wd .sides))
 
 pub forgotten-side : (w : ℕ) (p : Side) (wd : World) → forgotten (withSide w p wd) ≡ withSide w (forget p) (forgotten wd)
 unfolding forgotten
 forgotten-side w p wd =
-    ap (λ ps. record { journal = wd .journal; limit = wd .limit; current = wd .current; sides = ps }) (set-forget (wd .sides) w p)
+    ap (λ ps. withSides ps wd) (set-forget (wd .sides) w p)

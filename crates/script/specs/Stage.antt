@@ -7,9 +7,9 @@ use lib.Dec.{leb, ltb}
 use Rattle.journal.specs.declared.Entry.{Entry}
 use Rattle.record.specs.declared.Record.{Record}
 use Rattle.record.specs.Record.{newRecord}
-use Rattle.rules.specs.View.{Condition, normal, fetching, completed, suspended, WindowView}
+use Rattle.rules.specs.View.{Condition, normal, fetching, completed, suspended, WindowView, PlayerView}
 use Rattle.player.specs.View.{playerOf}
-use Rattle.delivery.specs.World.{Side, World, noSide, sideAt, answered, empty}
+use Rattle.delivery.specs.World.{Side, World, noSide, sideAt, withSides, answered, empty}
 use Rattle.delivery.specs.World as W
 use Rattle.script_line.specs.declared.Step.{Step}
 use Rattle.script_line.specs.declared.Step.the-variants.{Main, At}
@@ -39,20 +39,19 @@ sidesOf (v ∷ vs) [] ls = noSide ∷ sidesOf vs [] ls
 sidesOf (v ∷ vs) (r ∷ rs) [] = noSide ∷ sidesOf vs rs []
 sidesOf (v ∷ vs) (r ∷ rs) (l ∷ ls) = sideOf v r l ∷ sidesOf vs rs ls
 
+-- a journal, a player's numbers, and the windows' sides
+abbrev pub worldWith : List Entry → PlayerView → List Side → World
+worldWith j q ps = record { journal = j; limit = q .limit; spacing = q .spacing; current = q .current; sides = ps }
+
 unfoldable pub worldOf : List Entry → Stage → World
-worldOf j s = record {
-  journal = j;
-  limit = playerOf (s .player) .limit;
-  current = playerOf (s .player) .current;
-  sides = sidesOf (playerOf (s .player) .windows) (s .records) (s .lines);
-}
+worldOf j s = worldWith j (playerOf (s .player)) (sidesOf (playerOf (s .player) .windows) (s .records) (s .lines))
 
 -- a world without its history
 abbrev pub forget : Side → Side
 forget p = record { view = p .view; record′ = p .record′; line = p .line; back = p .back; taken = [] }
 
 unfoldable pub forgotten : World → World
-forgotten wd = record { journal = wd .journal; limit = wd .limit; current = wd .current; sides = map forget (wd .sides) }
+forgotten wd = withSides (map forget (wd .sides)) wd
 
 -- ------------------------------------------------------------------------
 -- A script's step as a step of the world: `main` and `catch` offer the index due, terms are current, the output lent has room for a batch

@@ -17,6 +17,7 @@ use Rattle.player.specs.declared.Player.{Player}
 use Rattle.player.specs.View.{playerOf}
 use Rattle.delivery.specs.World.{World, sideAt, withSide, takeFront, answered, takeAtLine}
 use Rattle.delivery.specs.World as W
+use Rattle.delivery.specs.Worlds.{withWindows}
 use Rattle.script_line.specs.declared.Step.the-variants.{At}
 use Rattle.script_line.specs.declared.Verb.the-variants.{Take}
 use Rattle.script.specs.declared.line.Sent.{Sent}
@@ -35,7 +36,7 @@ use Rattle.script.specs.Settled.{lineIn-within, line-here}
 
 -- the window that is there changes nothing
 window-same : (w : ℕ) (p : PlayerView) → p ≡ withWindow w (windowAt w p) p
-window-same w p = sym (ap (λ vs. record { limit = p .limit; current = p .current; windows = vs }) (set-getD (p .windows) w noWindow))
+window-same w p = sym (ap (withWindows p) (set-getD (p .windows) w noWindow))
 
 -- the acks once an entry is taken
 worldAck-taken : (x : Sent) (acks : List Ack) (b : Bool) →

@@ -22,13 +22,13 @@ use Rattle.player.specs.declared.Player.{Player}
 use Rattle.player.specs.View.{playerOf}
 use Rattle.player.specs.FirstWindows.{firstWindows-length, firstWindows-at}
 use Rattle.delivery.specs.World.{Side, World, noSide, sideAt, numbersIn, playerIn, withView, withPlayer, withSide}
-use Rattle.delivery.specs.Worlds.{withPlayer-window, withSide-here, withSide-twice}
+use Rattle.delivery.specs.Worlds.{withWindows, withPlayer-window, withSide-here, withSide-twice}
 use Rattle.script.specs.declared.line.Line.{Line}
 use Rattle.script.specs.declared.Stage.{Stage}
 use Rattle.lists.specs.Cells.{front}
 use Rattle.lists.specs.Set.{getD-any}
 use Rattle.script.specs.Line.{sentIn, acksIn, freshLine}
-use Rattle.script.specs.Stage.{sideOf, sidesOf, worldOf, forget, forgotten, recordIn, lineIn}
+use Rattle.script.specs.Stage.{sideOf, sidesOf, worldWith, worldOf, forget, forgotten, recordIn, lineIn}
 use Rattle.script.specs.Stored.{absent, present, slotIn, storedAt}
 use Rattle.script.specs.Sides.{sidesOf-length, sidesOf-forget, sidesOf-views, sidesOf-at, sidesOf-set, sidesOf-with}
 use Rattle.script.specs.Sides.{forgotten-player, forgotten-side}
@@ -79,8 +79,7 @@ pub worldOf-forgotten : (j : List Entry) (s : Stage) → forgotten (worldOf j s)
 unfolding worldOf forgotten
 worldOf-forgotten j s =
     let q : PlayerView = playerOf (s .player) in
-    ap (λ ps. record { journal = j; limit = q .limit; current = q .current; sides = ps })
-    (sidesOf-forget (q .windows) (s .records) (s .lines))
+    ap (worldWith j q) (sidesOf-forget (q .windows) (s .records) (s .lines))
 
 pub worldOf-count : (j : List Entry) (s : Stage) → length (worldOf j s .sides) ≡ s .player .count
 unfolding worldOf
@@ -108,7 +107,7 @@ module _ (j : List Entry) (s : Stage) (h : Staged s) where
   unfolding worldOf
   worldOf-player =
       let q : PlayerView = playerOf (s .player) in
-      ap (λ vs. record { limit = q .limit; current = q .current; windows = vs })
+      ap (withWindows q)
       (sidesOf-views (q .windows) (s .records) (s .lines) records-few lines-few)
 
   -- a window's side: what the player holds for it, its record and its line
@@ -131,8 +130,8 @@ module _ (j : List Entry) (s : Stage) (h : Staged s) where
       worldOf j (record { player = p; records = s .records; lines = s .lines }) ≡ forgotten (withPlayer q (worldOf j s))
   unfolding worldOf withPlayer
   worldOf-called p q e same =
-      ap (λ q. record { journal = j; limit = q .limit; current = q .current; sides = sidesOf (q .windows) (s .records) (s .lines) }) e
-      ∙ ap (λ ps. record { journal = j; limit = q .limit; current = q .current; sides = ps })
+      ap (λ q. worldWith j q (sidesOf (q .windows) (s .records) (s .lines))) e
+      ∙ ap (worldWith j q)
       (sidesOf-with (q .windows) (playerOf (s .player) .windows) (s .records) (s .lines) same records-few lines-few)
       ∙ sym (forgotten-player q (worldOf j s) ∙ ap (withPlayer q) (worldOf-forgotten j s))
 
@@ -144,8 +143,8 @@ module _ (j : List Entry) (s : Stage) (h : Staged s) where
     worldOf-placed p v r l e =
         let q : PlayerView = playerOf (s .player) in
         let sides : List WindowView → List Side = λ vs. sidesOf vs (set (s .records) w r) (set (s .lines) w l) in
-        ap (λ q. record { journal = j; limit = q .limit; current = q .current; sides = sides (q .windows) }) e
-        ∙ ap (λ ps. record { journal = j; limit = q .limit; current = q .current; sides = ps })
+        ap (λ q. worldWith j q (sides (q .windows))) e
+        ∙ ap (worldWith j q)
         (sidesOf-set (q .windows) (s .records) (s .lines) w v r l records-few lines-few)
 
     -- a turn of window w and another line for it, where the world changes the window's side so after that turn

@@ -17,7 +17,7 @@ pub struct Stage {
     pub lines: [Line; 16],
 }
 
-// What a step answers: document 01's number, or that a Take or an Ack found its line empty.
+// What a step answers: the papers' number, or that a Take or an Ack found its line empty.
 pub enum Reply {
     Answered(u32),
     Empty,

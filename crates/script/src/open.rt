@@ -13,21 +13,22 @@ ghost use Rattle.script.specs.Opening.{openedBy};
 
 // A player with no windows.
 fn blank() -> Player
-    ensures { λ r. ⌜ r ≡ freshPlayer 0 0 0 [] ⌝ }
+    ensures { λ r. ⌜ r ≡ freshPlayer 0 0 0 0 [] ⌝ }
 {
     let window = Window::started(Index(0));
     let windows = [window; 16];
     Player {
         count: 0,
         limit: 0,
+        spacing: 0,
         current: Index(0),
         windows,
     }
 }
 
 impl Stage {
-    // A stage after a first Start with so many windows, none of them silent, the batch limit 2 and a report of 0 from each; not opened, and
-    // with no windows, where that is refused.
+    // A stage after a first Start with so many windows, none of them silent, the batch limit 2, the spacing 65,535 and a report of 0 from
+    // each; not opened, and with no windows, where that is refused.
     pub fn open(journal: &[u32], count: u32) -> Opened
         ensures { λ r. ⌜ r ≡ openedBy (now (journal .entry)) count ⌝ }
     {
@@ -48,7 +49,7 @@ impl Stage {
         }
         let reports = [0; 16];
         let end = count as usize;
-        let played = operations::start_on(player, journal, count, 2, &reports[..end], 0);
+        let played = operations::start_on(player, journal, count, 2, 65535, &reports[..end], 0);
         let answer = played.answer;
         let next = played.player;
         let number = answer.number();

@@ -11,7 +11,6 @@ use Rattle.record.specs.Record.{newRecord, raceAfter, racesAfter, recordAfter, 
 use Rattle.record.specs.Races.{raceAt}
 use Rattle.rules.specs.View.{normal, suspended, WindowView, PlayerView}
 use Rattle.rules.specs.Shape.{windowShape, shape}
-use Rattle.rules.specs.Window.{isReport}
 use Rattle.table.specs.States.{OneMore, EightOut, MoreReady, Away, CanTake, OpenUntil}
 
 -- ------------------------------------------------------------------------
@@ -28,7 +27,7 @@ countUp (suc n) = countUp n ++ (suc n ∷ [])
 
 -- one window with what is held for it, n entries read
 abbrev pub oneWindow : ℕ → WindowView → PlayerView
-oneWindow n v = record { limit = 32; current = n; windows = v ∷ [] }
+oneWindow n v = record { limit = 32; spacing = 65535; current = n; windows = v ∷ [] }
 
 -- a Normal window with a queue
 abbrev pub queueing : List ℕ → WindowView
@@ -97,9 +96,9 @@ unfolding examples
 example-f = record { shaped = refl; limit = refl; ready = omega arith; free = refl; few = omega arith; room = omega arith }
 
 -- with acknowledged 3 and sent 5, a report of sent is one
-pub example-g : Away (entriesFor0 9) (oneWindow 9 (gone 3 5)) 0 × (3 ≤ 5) × (isReport (entriesOf (entriesFor0 9)) 0 5 ≡ true)
+pub example-g : Away (entriesFor0 9) (oneWindow 9 (gone 3 5)) 0 × (3 ≤ 5)
 unfolding examples
-example-g = (record { shaped = refl; within = omega arith; condition = refl; term = omega arith }, omega arith, refl)
+example-g = (record { shaped = refl; within = omega arith; condition = refl; term = omega arith }, omega arith)
 
 -- ------------------------------------------------------------------------
 -- The window

@@ -16,11 +16,11 @@ use Rattle.record.specs.declared.Record.{Record}
 use Rattle.record.specs.Record.{takeEntry, takeNumbers, takeAll, mayStamp}
 use Rattle.record.specs.Races.{raceAt, ClosedAs}
 use Rattle.record.specs.Laws.{takeEntry-answers, takeEntry-close, takeEntry-closed, takeEntry-post, takeEntry-post-closed, takeNumbers-placed, takeAll-count, mayStamp-open, mayStamp-closed}
-use Rattle.rules.specs.View.{normal, suspended, PlayerView}
+use Rattle.rules.specs.View.{normal, suspended, WindowView, PlayerView}
 use Rattle.rules.specs.Shape.{shape}
-use Rattle.rules.specs.Window.{isSuspended, wanted, mainAt, batchOf}
+use Rattle.rules.specs.Window.{isSuspended, wanted, readAt, batchOf}
 use Rattle.rules.specs.Rules.{windowAt, mainRule, sendRule, batchAt}
-use Rattle.rules.specs.Offers.{shaped, batches-here, windowAt-within, mainNext-at, mainRule-done, mainRule-can, isEmpty-drop, readyOf, readyOf-here, TakesReady, batchOf-ready, sendRule-can}
+use Rattle.rules.specs.Offers.{shaped, batches-here, windowAt-within, tickAt-cases, mainAt-both, ticked-same, mainNext-at, mainRule-done, mainRule-can, isEmpty-drop, readyOf, readyOf-here, TakesReady, batchOf-ready, sendRule-can}
 
 -- ------------------------------------------------------------------------
 -- (c), (d): window w is Normal with n queued, and the main stream's next entry is for it and above its acknowledged index
@@ -39,8 +39,18 @@ module _ {ns : List ℕ} {p : PlayerView} {w n : ℕ} (q : OneMore ns p w n) whe
   oneMore-answer : mainRule ns (p .current + 1) p .answer ≡ 0
   oneMore-answer = mainRule-can ns p (q .shaped) (omega (arith, isFor-within (entriesOf ns) w _ (q .own), entriesOf-length ns))
 
-  pub oneMore-window : windowAt w (mainRule ns (p .current + 1) p .next) ≡ mainAt (entriesOf ns) w (p .current + 1) (windowAt w p)
-  oneMore-window = ap (windowAt w) (mainRule-done ns _ p oneMore-answer .next) ∙ mainNext-at ns _ p w
+  -- where something is queued there is no tick, and the window is as the entry leaves it
+  pub oneMore-window : 1 ≤ n → windowAt w (mainRule ns (p .current + 1) p .next) ≡ readAt (entriesOf ns) w (p .current + 1) (windowAt w p)
+  oneMore-window some =
+      let i : ℕ = p .current + 1 in
+      let read : WindowView = readAt (entriesOf ns) w i (windowAt w p) in
+      ap (windowAt w) (mainRule-done ns _ p oneMore-answer .next)
+      ∙ mainNext-at ns _ p w
+      ∙ mainAt-both (entriesOf ns) w (p .spacing) i (windowAt w p)
+      ∙ tickAt-cases (p .spacing) i read (λ v. v ≡ read) refl
+      (λ t.
+      let same = ticked-same (entriesOf ns) w (p .spacing) i (windowAt w p) t in
+      absurd (omega (arith, q .queued, ap (λ v. length (v .normalQueue)) same, ap length (t .normalQueue))))
 
 -- ------------------------------------------------------------------------
 -- (e): eight batches of window w are out, and its line is free

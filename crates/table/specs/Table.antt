@@ -15,9 +15,9 @@ use Rattle.record.specs.Record.{Outcome, takeNumbers, mayStamp}
 use Rattle.record.specs.Races.{raceAt}
 use Rattle.rules.specs.View.{normal, fetching, WindowView, PlayerView}
 use Rattle.rules.specs.Shape.{shape}
-use Rattle.rules.specs.Window.{isSuspended, isReport, joined}
+use Rattle.rules.specs.Window.{isSuspended, joined}
 use Rattle.rules.specs.Rules.{windowAt, mainRule, joinRule, sendRule, batchAt}
-use Rattle.rules.specs.Offers.{shaped, operated-at, mainRule-refusals, sendRule-refusals, joinRule-refusals, mainAt-room, mainAt-normal, readyOf, launched-ready, sendRule-done, joinRule-done, joinRule-can}
+use Rattle.rules.specs.Offers.{shaped, operated-at, mainRule-refusals, sendRule-refusals, joinRule-refusals, readAt-room, readAt-normal, readyOf, launched-ready, sendRule-done, joinRule-done, joinRule-can}
 use Rattle.journal_text.specs.Text.{header}
 use Rattle.journal_text.specs.Scan.{scan}
 use Rattle.journal_text.specs.Answers.{Current}
@@ -50,10 +50,10 @@ pub record ProvedTable : Type 0 where
       × (batchAt w p ≡ take 32 (readyOf (windowAt w p)))
       × (length (batchAt w p) ≡ 32)
       × (readyOf (windowAt w (sendRule ns w size p .next)) ≡ drop 32 (readyOf (windowAt w p)))
-  -- (g) Report equal to sent: joined; sent + 1: 13. A report is joined if it is not below acknowledged, and is 0 or an own entry's index.
+  -- (g) Report equal to sent: joined; sent + 1: 13. A report is joined if it is not below acknowledged.
   pub g : (ns : List ℕ) (p : PlayerView) (w : ℕ) → Away ns p w →
       let v : WindowView = windowAt w p in
-      (v .acked ≤ v .sent → isReport (entriesOf ns) w (v .sent) ≡ true →
+      (v .acked ≤ v .sent →
       (joinRule ns w (v .sent) p .answer ≡ 0) × (windowAt w (joinRule ns w (v .sent) p .next) ≡ joined (p .current) (v .sent) v))
       × (joinRule ns w (v .sent + 1) p .answer ≡ 13)
   -- (h) Second 50,399 with off 50,400: stamped; 50,400: not. A POST of 50,400 to an open race of any record gives it that off.
@@ -81,11 +81,13 @@ proved-table = record {
   a-stage = row-a-stage;
   b = λ i p s. mainRule-refusals [] i p ∙ simp (s, eq-eqb (p .current) 0 (omega (arith, shaped [] p s .currentIn)));
   c = λ ns p w q.
-      let e = oneMore-window q ∙ mainAt-normal (entriesOf ns) w _ _ (oneMore-wanted q) (q .condition) (omega (arith, q .queued)) in
+      let e =
+      oneMore-window q (omega arith) ∙ readAt-normal (entriesOf ns) w _ _ (oneMore-wanted q) (q .condition) (omega (arith, q .queued)) in
       (ap (λ v. v .condition) e, ap (λ v. v .catchQueue) e, ap (λ v. v .normalQueue) e);
   d = λ ns p w q.
       let e =
-      oneMore-window q ∙ mainAt-room (entriesOf ns) w _ _ (oneMore-wanted q) (ap isSuspended (q .condition)) (omega (arith, q .queued)) in
+      oneMore-window q (omega arith)
+      ∙ readAt-room (entriesOf ns) w _ _ (oneMore-wanted q) (ap isSuspended (q .condition)) (omega (arith, q .queued)) in
       (ap (λ v. v .condition) e ∙ q .condition, ap (λ v. v .normalQueue) e);
   e = λ ns p w size q.
       sendRule-refusals ns w size p ∙ simp (q .shaped, lt-ltb w _ (eightOut-within q), eightOut-here q, q .free, q .out);
@@ -99,8 +101,8 @@ proved-table = record {
       let v : WindowView = windowAt w p in
       let away : isSuspended (v .condition) ≡ true = ap isSuspended (q .condition) in
       let below : eqb (v .term .0) 4294967295 ≡ false = ne-eqb (v .term .0) 4294967295 (omega (arith, q .term)) in (
-        λ least report.
-            let e = joinRule-can ns w p (q .shaped) (q .within) (v .sent) away (q .term) least (omega arith) report in
+        λ least.
+            let e = joinRule-can ns w p (q .shaped) (q .within) (v .sent) away (q .term) least (omega arith) in
             (e, operated-at (joinRule-done ns w (v .sent) p e)),
         joinRule-refusals ns w (v .sent + 1) p
             ∙ simp (q .shaped, lt-ltb w _ (q .within), away, below, lt-ltb (v .sent) (v .sent + 1) (omega arith), or-true),

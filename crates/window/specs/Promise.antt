@@ -1,11 +1,11 @@
--- What the operations at one window promise: document 01's number for each answer, and the equations between code and rule.
+-- What the operations at one window promise: the papers' number for each answer, and the equations between code and rule.
 use Prim.Native.Nat.{ℕ}
 use mathlib.Core.Path.{_≡_}
 use mathlib.Core.Bool.{false}
 use Rattle.journal.specs.declared.Index.{Index}
 use Rattle.queue.specs.Items.{freshQueue, freshBatches}
 use Rattle.window.specs.declared.Answer.{Answer}
-use Rattle.window.specs.declared.Answer.the-variants.{Done, OutOfShape, NoSuchWindow, Suspended, NothingToRead, OtherTerm, OtherIndex, NothingReady, LineState, TooManyBatches, CatchUpFull, BadAck, NotSuspended, BadReport, LastTerm, OutputTooShort}
+use Rattle.window.specs.declared.Answer.the-variants.{Done, OutOfShape, NoSuchWindow, Suspended, NothingToRead, OtherTerm, OtherIndex, NothingReady, LineState, TooManyBatches, CatchUpFull, BadAck, NotSuspended, BadReport, LastTerm, OutputTooShort, BadSpacing}
 use Rattle.window.specs.declared.Condition.{Condition}
 use Rattle.window.specs.declared.Condition.the-variants.{Normal}
 use Rattle.window.specs.declared.Condition.the-variants as Held
@@ -31,6 +31,7 @@ numberOf NotSuspended = 12
 numberOf BadReport = 13
 numberOf LastTerm = 14
 numberOf OutputTooShort = 17
+numberOf BadSpacing = 18
 
 -- an operation at one window: its answer and the view of the next state are the rule's, and a refusal gives back the window handed in,
 -- stale cells too

@@ -1,28 +1,15 @@
-// What the operations at one window share: a change of condition, whether the line is dropped, what they ask first, what a report may be,
-// and a refusal.
+// What the operations at one window share: a change of condition, whether the line is dropped, what they ask first, and a refusal.
 use crate::Answer;
 use crate::Condition;
 use crate::Head;
 use crate::Turned;
 use crate::Window;
-use journal::Index;
 use rules::Term;
 ghost use mathlib.Core.Path.{_≡_};
-ghost use Rattle.journal.specs.Entry.{entriesOf};
-ghost use Rattle.rules.specs.Window.{refusal, isSuspended, otherTerm, isReport};
+ghost use Rattle.rules.specs.Window.{refusal, isSuspended, otherTerm};
 ghost use Rattle.window.specs.View.{viewOf};
 ghost use Rattle.window.specs.Promise.{numberOf, MeetsWindow};
 ghost use Rattle.window.specs.Admission.{admitted};
-
-// Whether a report is 0 or the index of an entry for window w.
-pub fn is_report(journal: &[u32], w: u32, report: Index) -> bool
-    ensures { λ r. ⌜ r ≡ isReport (entriesOf (now (journal .entry))) w (report .0) ⌝ }
-{
-    if report.0 == 0 {
-        return true;
-    }
-    journal::is_for(journal, report, w)
-}
 
 impl Head {
     // The head with another condition.

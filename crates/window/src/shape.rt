@@ -1,4 +1,5 @@
-// The shape of one window: its lengths, the indices that it holds, and its queues beside its condition; and what a batch limit may be.
+// The shape of one window: its lengths, the indices that it holds, and its queues beside its condition; and what a batch limit and a
+// spacing may be.
 use crate::Condition;
 use crate::Window;
 use journal::Index;
@@ -8,16 +9,30 @@ ghost use lib.Dec.{leb};
 ghost use lib.ListN.{length};
 ghost use Rattle.lists.specs.All.{all, heldIn};
 ghost use Rattle.window.specs.View.{viewOf, conditionOf};
-ghost use Rattle.rules.specs.Shape.{limitFits, lengthsFit, windowShape, conditionHeld, nextFits, endFits, catchUpFits, suspendedFits};
+ghost use Rattle.rules.specs.Shape.{limitFits, spacingFits, lengthsFit, windowShape, conditionHeld, nextFits, endFits, catchUpFits, suspendedFits};
+
+// Whether a number is 1 to `most`.
+fn up_to(n: u32, most: u32) -> bool
+    ensures { λ r. ⌜ r ≡ (leb 1 n && leb n most) ⌝ }
+{
+    if n < 1 {
+        return false;
+    }
+    n <= most
+}
 
 // Whether a batch limit is 1 to 32.
 pub fn limit_fits(limit: u32) -> bool
     ensures { λ r. ⌜ r ≡ limitFits limit ⌝ }
 {
-    if limit < 1 {
-        return false;
-    }
-    limit <= 32
+    up_to(limit, 32)
+}
+
+// Whether a spacing is 1 to 65,535.
+pub fn spacing_fits(spacing: u32) -> bool
+    ensures { λ r. ⌜ r ≡ spacingFits spacing ⌝ }
+{
+    up_to(spacing, 65535)
 }
 
 impl Condition {

@@ -113,14 +113,14 @@ sendTurn-refuses limit size v = by (not (sendGuard limit v))
         ap (λ x. x .next) e ∙ sendAt-refuses limit size v (λ z. h (ap (λ x. x .answer) e ∙ z))
 
 -- the output of either
-module _ (ns : List ℕ) (limit : ℕ) (out : List ℕ) (v : WindowView) where
+module _ (ns : List ℕ) (w limit : ℕ) (out : List ℕ) (v : WindowView) where
   pub turnOutput-done : sendTurn limit (length out) v .answer ≡ 0 →
-      over 0 (batchNumbers (entriesOf ns) (parted (caughtOf limit v) (queuedOf limit v) v .indices)) out ≡ turnOutput ns limit out v
+      over 0 (batchNumbers (entriesOf ns) w (parted (caughtOf limit v) (queuedOf limit v) v .indices)) out ≡ turnOutput ns w limit out v
   unfolding turnOutput
   turnOutput-done e =
       let s = sendTurn-done limit (length out) v e in
-      rw (eq-eqb _ 0 e, s .batch) (over-front (batchNumbers (entriesOf ns) (parted (caughtOf limit v) (queuedOf limit v) v .indices)) out)
+      rw (eq-eqb _ 0 e, s .batch) (over-front (batchNumbers (entriesOf ns) w (parted (caughtOf limit v) (queuedOf limit v) v .indices)) out)
 
-  pub turnOutput-refused : (sendTurn limit (length out) v .answer ≡ 0 → ⊥) → out ≡ turnOutput ns limit out v
+  pub turnOutput-refused : (sendTurn limit (length out) v .answer ≡ 0 → ⊥) → out ≡ turnOutput ns w limit out v
   unfolding turnOutput
   turnOutput-refused h = rw (ne-eqb _ 0 h)

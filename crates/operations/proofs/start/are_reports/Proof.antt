@@ -4,31 +4,29 @@ use mathlib.Core.Path.{_≡_, refl, sym, _∙_}
 use mathlib.Core.Bool.{_&&_}
 use lib.ListN.{length, drop}
 use borrow.Author.Tests.{not-true, not-false}
-use Rattle.journal.specs.Entry.{entriesOf}
-use Rattle.rules.specs.Rules.{said, areReports}
-use Rattle.operations.specs.Starting.{areReports-at, areReports-end}
+use Rattle.lists.specs.All.{all}
+use Rattle.rules.specs.Rules.{said, isStartReport}
+use Rattle.operations.specs.Starting.{reports-at, reports-end}
 use borrow.Author.Needs.{needs}
 use Rattle.operations.proofs.start.are_reports.Statement.{statement}
 use Rattle.operations.proofs.start.are_reports.Tie as tie
 
 abbrev Inv-loop : tie.InvT-loop
-Inv-loop journal reports silent next₀ next =
-    let j = entriesOf journal in
-    let rs = said silent reports in (next ≤ length reports) × (areReports j 0 rs ≡ areReports j next (drop next rs))
+Inv-loop l reports silent next₀ next =
+    let rs = said silent reports in (next ≤ length reports) × (all (isStartReport l) rs ≡ all (isStartReport l) (drop next rs))
 
 abbrev μ-loop : tie.MeasureT-loop
-μ-loop journal reports silent next₀ next = length reports - next
+μ-loop l reports silent next₀ next = length reports - next
 
 -- what a turn's answer says of the test of every window
 turn : (c : tie.After-is-start-report Inv-loop μ-loop) →
-    let args = c .before .before .before .before .before .before .args in
-    let j = entriesOf (args .journal .now) in
+    let args = c .before .before .before .before .before .args in
     let rs = said (args .silent) (args .reports .now) in
     let next = c .before .before .before .loop .next in
-    areReports j 0 rs ≡ (c .is-start-report .result && areReports j (next + 1) (drop (next + 1) rs))
+    all (isStartReport (args .l)) rs ≡ (c .is-start-report .result && all (isStartReport (args .l)) (drop (next + 1) rs))
 turn c =
     rw (c .is-start-report .ensures)
-    (c .before .before .before .loop .inv .1 ∙ areReports-at _ _ _ _ (c .before .before .loop-test .taken))
+    (c .before .before .before .loop .inv .1 ∙ reports-at _ _ _ _ (c .before .before .loop-test .taken))
 
 loop-holds : tie.Need-loop-holds Inv-loop μ-loop
 loop-holds c = (search needs, refl)
@@ -36,11 +34,11 @@ loop-holds c = (search needs, refl)
 cast-w : tie.Need-cast-w Inv-loop μ-loop
 cast-w c = search needs
 
-mul-t7 : tie.Need-mul-t7 Inv-loop μ-loop
-mul-t7 c = search needs
+mul-is-start-report : tie.Need-mul-is-start-report Inv-loop μ-loop
+mul-is-start-report c = search needs
 
-shared-slice-read-t10 : tie.Need-shared-slice-read-t10 Inv-loop μ-loop
-shared-slice-read-t10 c = search needs
+shared-slice-read-is-start-report : tie.Need-shared-slice-read-is-start-report Inv-loop μ-loop
+shared-slice-read-is-start-report c = search needs
 
 is-start-report-requires : tie.Need-is-start-report-requires Inv-loop μ-loop
 is-start-report-requires c κs = search needs
@@ -58,7 +56,7 @@ loop-again : tie.Need-loop-again Inv-loop μ-loop
 loop-again c = (search needs, rw (turn (c .before), not-false (c .before .is-start-report .result) (c .if1 .left)))
 
 returns-2 : tie.Need-returns-2 Inv-loop μ-loop
-returns-2 c = rw (c .before .loop .inv .1) (sym (areReports-end _ _ _ _ (c .loop-test .left)))
+returns-2 c = rw (c .before .loop .inv .1) (sym (reports-end _ _ _ _ (c .loop-test .left)))
 
 pub are-reports-spec : {M : Type 1} → statement M
 are-reports-spec =
@@ -68,8 +66,8 @@ are-reports-spec =
     μ-loop
     loop-holds
     cast-w
-    mul-t7
-    shared-slice-read-t10
+    mul-is-start-report
+    shared-slice-read-is-start-report
     is-start-report-requires
     returns
     add-next

@@ -19,7 +19,7 @@ returns-3 c =
     let first = second .before .before in
     and-passed (first .before .count-fits .ensures) (first .if1 .left)
     (and-passed (second .before .limit-fits .ensures) (second .if2 .left)
-    (and-failed _ (c .before .in-shape .ensures) (c .if3 .taken)))
+    (and-failed _ (c .before .spacing-fits .ensures) (c .if3 .taken)))
 
 returns-4 : tie.Need-returns-4
 returns-4 c =
@@ -28,8 +28,20 @@ returns-4 c =
     let first = second .before .before in
     and-passed (first .before .count-fits .ensures) (first .if1 .left)
     (and-passed (second .before .limit-fits .ensures) (second .if2 .left)
-    (and-passed (third .before .in-shape .ensures) (third .if3 .left)
-    (rw (c .entries .ensures))))
+    (and-passed (third .before .spacing-fits .ensures) (third .if3 .left)
+    (and-failed _ (c .before .in-shape .ensures) (c .if4 .taken))))
+
+returns-5 : tie.Need-returns-5
+returns-5 c =
+    let fourth = c .before .before in
+    let third = fourth .before .before in
+    let second = third .before .before in
+    let first = second .before .before in
+    and-passed (first .before .count-fits .ensures) (first .if1 .left)
+    (and-passed (second .before .limit-fits .ensures) (second .if2 .left)
+    (and-passed (third .before .spacing-fits .ensures) (third .if3 .left)
+    (and-passed (fourth .before .in-shape .ensures) (fourth .if4 .left)
+    (rw (c .entries .ensures)))))
 
 pub numbers-fit-spec : {M : Type 1} → statement M
 numbers-fit-spec =
@@ -41,6 +53,8 @@ numbers-fit-spec =
     returns-2
     (λ c κs. search needs)
     returns-3
+    (λ c κs. search needs)
+    returns-4
     (λ c. search needs)
     (λ c κs. search needs)
-    returns-4)
+    returns-5)
