@@ -5,12 +5,12 @@ use mathlib.Core.Logic.{⊎-elim}
 use mathlib.Core.List.{List, [], _∷_}
 use mathlib.Core.Bool.{Bool, true, false, cond, _&&_, _||_, and-false}
 use native.Mathlib.Omega.{arith}
-use borrow.Author.Tests.{lt-ltb, le-ltb, eqb-true}
+use borrow.Author.Tests.{lt-ltb, le-ltb, lt-leb, le-leb, ne-eqb, eqb-true}
 use lib.ListN.{length, drop}
 use lib.Dec.{ltb, eqb}
 use Rattle.lists.specs.Cases.{and-left, and-right, and-intro, le-or-lt}
 use Rattle.lists.specs.Elem.{elem, lastOr}
-use Rattle.lists.specs.All.{all}
+use Rattle.lists.specs.All.{all, heldIn}
 use Rattle.lists.specs.Rising.{Rising}
 
 unfoldable pub above : ℕ → List ℕ → List ℕ
@@ -44,6 +44,16 @@ above-length i (x ∷ xs) = by (ltb i x) (above-length i xs)
     by : (b : Bool) → length (above i xs) ≤ length xs → length (cond b (x ∷ above i xs) (above i xs)) ≤ suc (length xs)
     by true h = omega arith
     by false h = omega arith
+
+-- none is left where none was above
+pub above-none : (i : ℕ) (xs : List ℕ) → eqb (length (above i xs)) 0 ≡ all (heldIn i) xs
+unfolding above all
+above-none i [] = refl
+above-none i (x ∷ xs) =
+    ⊎-elim
+    (λ (low : x ≤ i). rw (le-ltb i x low, le-leb x i low) (above-none i xs))
+    (λ (high : i < x). rw (lt-ltb i x high, lt-leb x i high) (ne-eqb (suc (length (above i xs))) 0 (λ e. omega arith)))
+    (le-or-lt x i)
 
 -- a test that every number passes
 pub all-above : (p : ℕ → Bool) (i : ℕ) (xs : List ℕ) → all p xs ≡ true → all p (above i xs) ≡ true

@@ -6,7 +6,7 @@ use mathlib.Core.List.{List, [], _∷_, _++_}
 use mathlib.Core.Bool.{Bool, true, _&&_, and-assoc, and-eq-true-iff}
 use borrow.Author.Tests.{leb-true}
 use lib.ListN.{length, take, drop, getD}
-use lib.Dec.{leb, leb·zero}
+use lib.Dec.{leb}
 use Rattle.lists.specs.Cases.{and-left, and-right, and-intro}
 use Rattle.lists.specs.Elem.{lastOr}
 
@@ -40,11 +40,6 @@ module _ {A : Type 0} where
   unfolding all
   all-more p xs x each one = rw (all-append p xs (x ∷ [])) (and-intro each (and-intro one refl))
 
-  pub all-cong : (p q : A → Bool) → ((x : A) → p x ≡ q x) → (xs : List A) → all p xs ≡ all q xs
-  unfolding all
-  all-cong p q e [] = refl
-  all-cong p q e (x ∷ xs) = rw (e x, all-cong p q e xs)
-
   pub all-weaken : (p q : A → Bool) → ((x : A) → p x ≡ true → q x ≡ true) → (xs : List A) → all p xs ≡ true → all q xs ≡ true
   unfolding all
   all-weaken p q w [] h = refl
@@ -77,9 +72,6 @@ module _ {A : Type 0} where
   unfolding all
   all-of p [] d h = refl
   all-of p (x ∷ xs) d h = and-intro (h 0 (omega arith)) (all-of p xs d (λ i l. h (suc i) (omega arith)))
-
-pub all-held : (l : ℕ) (xs : List ℕ) → all (between 0 l) xs ≡ all (heldIn l) xs
-all-held l = all-cong (between 0 l) (heldIn l) (λ x. rw leb·zero)
 
 -- a test that every item passes, the last item passes
 pub all-last : (p : ℕ → Bool) (a : ℕ) (xs : List ℕ) → p a ≡ true → all p xs ≡ true → p (lastOr a xs) ≡ true

@@ -33,12 +33,20 @@ fn send(p: Player, journal: &[u32], n: Line) -> Player {
 }
 
 // Send at window w on its own, lent five nines.
-fn alone(window: Window, journal: &[u32], w: u32, limit: u32) {
+fn send_alone(window: Window, journal: &[u32], w: u32, limit: u32) {
     let mut nines = [9; 5];
     let turned = window_send::send_at(window, journal, w, limit, &mut nines);
     let answer = turned.answer;
     show::answer(answer);
     show::out(&nines, 5);
+}
+
+// Catch at window w on its own.
+fn catch_alone(window: Window, journal: &[u32], w: u32, n: Line) -> Window {
+    let turned = window_fill::catch_at(window, journal, w, Term(n.c), Index(n.d));
+    let answer = turned.answer;
+    show::answer(answer);
+    turned.window
 }
 
 // Start with the first `len` reports, and the spacing and the set of silent windows before W.
@@ -96,14 +104,17 @@ fn shape_of(p: Player, journal: &[u32], n: usize) {
 // What a letter asks over a journal, and the player as it then is.
 fn over(s: State, journal: &[u32], n: Line, letter: u8) -> Player {
     let p = s.player;
+    let w = (s.place % 16) as u32;
     let reports = s.reports;
     let cells = reports.cells;
     match letter {
         b'P' => start(p, journal, n, &cells, reports.len),
         b'O' => {
-            alone(s.window(), journal, (s.place % 16) as u32, p.limit);
+            send_alone(s.window(), journal, w, p.limit);
             p
         }
+        b'N' => s.put(window_fill::main_at(s.window(), journal, w, n.c, Index(n.d))),
+        b'Q' => s.put(catch_alone(s.window(), journal, w, n)),
         b'I' => {
             shape(p, journal);
             p

@@ -1,6 +1,7 @@
 // Every refusal of the player's operations, and what they make of a state. Standard input has a line for each case: a label, a colon,
 // and letters with the numbers before them. A small letter changes the state. A large one asks an operation and shows the answer, or
-// shows what the player then holds. A state is wrong in two ways where that shows the order of the checks.
+// shows what the player then holds. A state is wrong in two ways where that shows the order of the checks. `n` and `g` put 0 for a number
+// that no cell can hold.
 //
 // | letter | what it sets | letter | what it asks |
 // |---|---|---|---|
@@ -8,7 +9,7 @@
 // | `o` | W, batch limit, `current` | `C` | Catch: window, term, index |
 // | `v` | one more entry of the journal: windows, kind, race, value | `S` | Send: window, size of the output lent, how much is shown |
 // | `j` | how many numbers of the journal count | `W` | Written: window, term |
-// | `x` | the spacing | | |
+// | `x` | the spacing | `N`, `Q` | at the window on its own: Main: spacing, index; Catch: term, index |
 // | `r` | one more report for Start | `A` | Ack: window, term, index |
 // | `t` | the window that the letters below change | `D` | Drop: window |
 // | `i` | every window as this one is | `J` | Join: window, report |
@@ -24,6 +25,7 @@
 mod ask;
 mod bench;
 mod line;
+mod numbers;
 mod show;
 mod state;
 mod windows;

@@ -1,6 +1,7 @@
 // What a case shows.
 use crate::state::window_of;
 use player::Player;
+use queue::Queue;
 use window::Answer;
 use window::Condition;
 use window::Head;
@@ -28,10 +29,6 @@ fn value(n: u32) {
 
 pub(crate) fn answer(given: Answer) {
     value(given.number());
-}
-
-fn least(m: usize, n: usize) -> usize {
-    if m < n { m } else { n }
 }
 
 // Where the last fifteen of n numbers begin, or 0 where there are fewer.
@@ -103,17 +100,30 @@ fn sizes(x: Window) {
     size(b", catch-up ", x.catch_up.len);
 }
 
+// The index at a place of a queue, where there is one.
+fn index(q: Queue, k: usize) {
+    if k < q.size() {
+        value(q.item(k));
+    }
+}
+
+// The first three indices of a queue.
+fn three(name: &[u8], q: Queue) {
+    io::write_all(1, name);
+    index(q, 0);
+    index(q, 1);
+    index(q, 2);
+}
+
 // The batches, and the first three indices of each queue.
 fn items(x: Window) {
     let batches = x.head.batches;
     let out = batches.cells;
     first(b", batches", &out, batches.len);
     let normal = x.normal;
-    let queued = normal.cells;
-    first(b", normal", &queued, least(normal.len, 3));
+    three(b", normal", normal);
     let catch_up = x.catch_up;
-    let caught = catch_up.cells;
-    first(b", catch-up", &caught, least(catch_up.len, 3));
+    three(b", catch-up", catch_up);
 }
 
 // A window, in a place.

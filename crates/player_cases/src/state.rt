@@ -1,16 +1,16 @@
 // States made by hand.
 use crate::line::Line;
+use crate::numbers::Numbers;
 use crate::windows;
 use journal::Index;
 use player::Player;
-use queue::Queue;
 use window::Window;
 
 // The player, the numbers of the journal, the reports for Start, and the place of the window that letters change.
 pub(crate) struct State {
     pub(crate) player: Player,
-    pub(crate) journal: Queue,
-    pub(crate) reports: Queue,
+    pub(crate) journal: Numbers,
+    pub(crate) reports: Numbers,
     pub(crate) place: usize,
 }
 
@@ -25,8 +25,8 @@ pub(crate) fn first() -> State {
     };
     State {
         player,
-        journal: Queue::new(),
-        reports: Queue::new(),
+        journal: Numbers::none(),
+        reports: Numbers::none(),
         place: 0,
     }
 }
@@ -48,6 +48,14 @@ impl State {
     pub(crate) fn with(mut self, player: Player) -> State {
         self.player = player;
         self
+    }
+
+    // The player with another window in the place of that one.
+    pub(crate) fn put(self, window: Window) -> Player {
+        let mut player = self.player;
+        let at = self.place % 16;
+        player.windows[at] = window;
+        player
     }
 }
 
@@ -92,22 +100,22 @@ fn player(s: State, n: Line, letter: u8) -> Player {
 }
 
 // The journal that a letter makes of one.
-fn journal(mut q: Queue, n: Line, letter: u8) -> Queue {
+fn journal(mut held: Numbers, n: Line, letter: u8) -> Numbers {
     if letter == b'v' {
-        return q.push(n.a).push(n.b).push(n.c).push(n.d);
+        return held.with(n.a).with(n.b).with(n.c).with(n.d);
     }
     if letter == b'j' {
-        q.len = n.d as usize;
+        held.len = n.d as usize;
     }
-    q
+    held
 }
 
 // The reports that a letter makes of some.
-fn reports(q: Queue, n: Line, letter: u8) -> Queue {
+fn reports(told: Numbers, n: Line, letter: u8) -> Numbers {
     if letter == b'r' {
-        return q.push(n.d);
+        return told.with(n.d);
     }
-    q
+    told
 }
 
 // The state that a letter makes of a state.

@@ -28,7 +28,9 @@ pub(crate) fn idle() -> Window {
 // What a letter makes of a queue: `all` an index in every cell, `more` one more index.
 fn queue(q: Queue, n: Line, letter: u8, all: u8, more: u8) -> Queue {
     if letter == all {
-        let cells = [n.c; 128];
+        let one = Queue::new().push(n.c);
+        let cell = one.cells[0];
+        let cells = [cell; 128];
         return Queue {
             cells,
             len: n.d as usize,

@@ -1,3 +1,4 @@
 -- What the proofs share besides the laws of specs/.
 mod Moved
 mod Kept
+mod Tested

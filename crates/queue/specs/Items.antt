@@ -1,7 +1,7 @@
 -- A queue is its items, oldest first: the cells below its length. What stands past the length is in no list.
 use Prim.Native.Nat.{ℕ}
 use mathlib.Core.List.{List, [], _∷_, _++_}
-use mathlib.Core.Bool.{cond}
+use mathlib.Core.Bool.{Bool, cond}
 use lib.ListN.{length, drop, replicate}
 use lib.Dec.{leb, ltb}
 use Rattle.lists.specs.Cells.{front}
@@ -28,6 +28,14 @@ freshBatches = record { cells = replicate 8 0; len = 0 }
 -- one more at the end of at most `size` items; unchanged where it is full
 unfoldable pub pushed : ℕ → ℕ → List ℕ → List ℕ
 pushed size x q = cond (ltb (length q) size) (q ++ (x ∷ [])) q
+
+-- whether a queue's cell can hold a number: it has 16 bits
+unfoldable pub fitsCell : ℕ → Bool
+fitsCell x = leb x 65535
+
+-- one more index at the end of a queue; unchanged where it is full, or where no cell can hold the index
+unfoldable pub queued : ℕ → List ℕ → List ℕ
+queued x q = cond (fitsCell x) (pushed 128 x q) q
 
 -- what f makes of at most `size` items; unchanged where there are more items than that
 unfoldable pub whereFits : ℕ → (List ℕ → List ℕ) → List ℕ → List ℕ

@@ -3,14 +3,14 @@ use Prim.Native.Nat.{ℕ, zero, suc, _+_, _-_, _≤_, _<_, zero-le}
 use native.Mathlib.Nat.{le-of-suc-le-suc, not-suc-le-zero, suc-sub-suc, sub-zero, zero-sub}
 use native.Mathlib.Numerals.{add-one}
 use native.Mathlib.Omega.{arith}
-use mathlib.Core.Path.{_≡_, refl, sym, ap}
+use mathlib.Core.Path.{_≡_, refl, sym, ap, _∙_}
 use mathlib.Core.List.{List, [], _∷_, _++_}
 use mathlib.Core.Bool.{true, false}
 use lib.ListN.{length, take, drop, getD, set, List·getD-eq-default, drop-of-length-le}
 use lib.Seq.{drop-cons, drop-nil}
 use lib.Dec.{leb}
-use borrow.Author.Tests.{lt-ltb, le-ltb, le-leb, lt-leb}
-use Rattle.queue.specs.Items.{itemsOf, batchesOf, freshQueue, freshBatches, pushed, whereFits}
+use borrow.Author.Tests.{lt-ltb, le-ltb, le-leb, lt-leb, leb-true}
+use Rattle.queue.specs.Items.{itemsOf, batchesOf, freshQueue, freshBatches, pushed, fitsCell, queued, whereFits}
 use Rattle.lists.specs.Cells.{front, front-length, front-push}
 
 -- front
@@ -87,6 +87,37 @@ pushed-front-room size x n cells e h =
 
 pub pushed-front-full : (size x n : ℕ) (cells : List ℕ) → size ≤ n → front 0 n cells ≡ pushed size x (front 0 n cells)
 pushed-front-full size x n cells h = sym (pushed-full size x (front 0 n cells) (rw front-length h))
+
+-- fitsCell, queued
+
+-- an index of a journal in shape is at most 65,535
+pub fitsCell-index : (x : ℕ) → x ≤ 65535 → fitsCell x ≡ true
+unfolding fitsCell
+fitsCell-index x h = le-leb x 65535 h
+
+pub fitsCell-most : (x : ℕ) → fitsCell x ≡ true → x ≤ 65535
+unfolding fitsCell
+fitsCell-most x h = leb-true x 65535 h
+
+pub queued-fits : (x : ℕ) (q : List ℕ) → fitsCell x ≡ true → queued x q ≡ pushed 128 x q
+unfolding queued
+queued-fits x q h = rw h
+
+pub queued-room : (x : ℕ) (q : List ℕ) → fitsCell x ≡ true → length q < 128 → queued x q ≡ q ++ (x ∷ [])
+queued-room x q h l = queued-fits x q h ∙ pushed-room 128 x q l
+
+pub queued-over : (x : ℕ) (q : List ℕ) → fitsCell x ≡ false → queued x q ≡ q
+unfolding queued
+queued-over x q h = rw h
+
+-- computed: 65,535 goes in, and the number after it does not
+pub queued-last : queued 65535 (7 ∷ []) ≡ 7 ∷ 65535 ∷ []
+unfolding queued pushed fitsCell
+queued-last = refl
+
+pub queued-past : queued 65536 (7 ∷ []) ≡ 7 ∷ []
+unfolding queued fitsCell
+queued-past = refl
 
 -- whereFits
 

@@ -90,7 +90,8 @@ impl Batches {
         if 8 < n {
             return false;
         }
-        let ends = self.cells;
-        cells::all_between(&ends, n, 0, l)
+        let mut ends = self.cells;
+        let over = cells::keep_above(&mut ends, n, l);
+        over == 0
     }
 }

@@ -6,7 +6,7 @@ ghost use mathlib.Core.Bool.{_&&_};
 ghost use mathlib.Core.List.{[]};
 ghost use lib.Dec.{leb};
 ghost use lib.ListN.{length, getD};
-ghost use Rattle.queue.specs.Items.{itemsOf, freshQueue, pushed, skipped};
+ghost use Rattle.queue.specs.Items.{itemsOf, freshQueue, fitsCell, queued, skipped};
 ghost use Rattle.lists.specs.All.{all, queuedIn};
 
 impl Queue {
@@ -22,16 +22,26 @@ impl Queue {
         Queue::FRESH
     }
 
-    // The queue with one more index at its end, or as it was where it holds 128 or more.
-    pub fn push(self, x: u32) -> Queue
-        ensures { λ r. ⌜ itemsOf r ≡ pushed 128 x (itemsOf self) ⌝ }
+    // Whether a cell can hold the number. Every index of a journal in shape is such a number.
+    pub fn fits_cell(x: u32) -> bool
+        ensures { λ r. ⌜ r ≡ fitsCell x ⌝ }
     {
+        x <= 65535
+    }
+
+    // The queue with one more index at its end, or as it was where it has 128 or more, or where no cell can hold the index.
+    pub fn push(self, x: u32) -> Queue
+        ensures { λ r. ⌜ itemsOf r ≡ queued x (itemsOf self) ⌝ }
+    {
+        if !Queue::fits_cell(x) {
+            return self;
+        }
         let at = self.len;
         if 128 <= at {
             return self;
         }
         let mut q = self;
-        q.cells[at] = x;
+        q.cells[at] = cells::as_cell(x);
         q.len = at + 1;
         q
     }
@@ -72,7 +82,7 @@ impl Queue {
         if 128 <= k {
             return 0;
         }
-        q.cells[k]
+        q.cells[k] as u32
     }
 
     // The number of indices.

@@ -1,11 +1,11 @@
-// Bounded queues by value: up to 128 indices, and up to 8 last indices of batches.
+// Bounded queues by value: up to 128 indices in cells of 16 bits, and up to 8 last indices of batches.
 mod cells;
 mod ends;
 mod indices;
 
 // Indices, oldest first: the cells below the length.
 pub struct Queue {
-    pub cells: [u32; 128],
+    pub cells: [u16; 128],
     pub len: usize,
 }
 

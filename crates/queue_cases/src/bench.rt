@@ -70,7 +70,9 @@ fn pushed_to(n: u32) -> Bench {
 
 // A queue and batches that are handed in with one index in every cell, and any length.
 fn handed(x: u32, n: usize) -> Bench {
-    let cells = [x; 128];
+    let one = Queue::new().push(x);
+    let cell = one.cells[0];
+    let cells = [cell; 128];
     let few = [x; 8];
     made(Queue { cells, len: n }, Batches { cells: few, len: n })
 }

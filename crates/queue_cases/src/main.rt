@@ -10,7 +10,7 @@
 // | `c` | clear | `w`, `W` | whether all lie within the number |
 // | `f` | the constant of each | | |
 // | `u` | pushes of 1 up to the number | | |
-// | `h` | handed in: the number before this one in every cell, and this one as length | | |
+// | `h` | handed in: the number before this one in every cell, or 0 where none can hold it, and this one as length | | |
 mod bench;
 mod show;
 

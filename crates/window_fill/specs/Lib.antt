@@ -1,2 +1,2 @@
--- Main and Catch at one window: what Main tests before its rule.
-pub mod MainGuard
+-- Main and Catch at one window: what they test before their rules.
+pub mod Guards

@@ -5,7 +5,9 @@ use window::Condition;
 use window::Window;
 ghost use Prim.Native.Nat.{_+_, _%_};
 ghost use mathlib.Core.Path.{_≡_};
+ghost use mathlib.Core.Bool.{true};
 ghost use lib.Dec.{leb};
+ghost use Rattle.queue.specs.Items.{fitsCell};
 ghost use Rattle.window.specs.View.{viewOf, conditionOf};
 ghost use Rattle.rules.specs.Window.{isNormal, isQuiet, tickAt};
 
@@ -62,6 +64,7 @@ fn is_quiet(window: Window, spacing: u32, index: Index) -> bool
 
 // The window with the index, a multiple of the spacing, in its normal queue where it is quiet.
 pub(crate) fn tick_at(window: Window, spacing: u32, index: Index) -> Window
+    requires { ⌜ fitsCell (index .0) ≡ true ⌝ }
     requires { ⌜ index .0 % spacing ≡ 0 ⌝ }
     ensures { λ r. ⌜ viewOf r ≡ tickAt spacing (index .0) (viewOf window) ⌝ }
 {

@@ -25,6 +25,9 @@ mul-result c = search needs
 element-copy-out-result : tie.Need-element-copy-out-result
 element-copy-out-result c = search needs
 
+cast-result : tie.Need-cast-result
+cast-result c = search needs
+
 returns-3 : tie.Need-returns-3
 unfolding itemsOf
 returns-3 c =
@@ -32,4 +35,4 @@ returns-3 c =
     sym (front-getD _ _ _ below)
 
 pub item-spec : {M : Type 1} → statement M
-item-spec = tie.close (tie.spec returns returns-2 mul-result element-copy-out-result returns-3)
+item-spec = tie.close (tie.spec returns returns-2 mul-result element-copy-out-result cast-result returns-3)

@@ -1,49 +1,38 @@
--- The loop's invariant: the test of the first n cells is the test of those from `i` on.
+-- The loop's invariant: the test of the first n cells is what has come of those before `i` and the test of the others.
 use Prim.Native.Nat.{_≤_, _-_}
-use mathlib.Core.Path.{_≡_, refl}
-use lib.ListN.{drop}
+use native.Mathlib.Omega.{arith}
+use mathlib.Core.Path.{_≡_, refl, sym, ap, _∙_}
+use mathlib.Core.Logic.{⊎-elim}
+use lib.ListN.{getD}
 use borrow.Author.Needs.{needs}
-use borrow.Author.Tests.{le-leb, lt-leb}
+use borrow.Author.Tests.{not-true, not-false}
 use Rattle.lists.specs.Cells.{front}
 use Rattle.lists.specs.All.{all, between}
-use Rattle.queue.specs.Laws.{front-at, front-end}
+use Rattle.queue.proofs.Tested.{tested, tested-all, tested-passed, tested-failed, between-cell}
 use Rattle.queue.proofs.cells.all_between.Statement.{statement}
 use Rattle.queue.proofs.cells.all_between.Tie as tie
 
 abbrev Inv-loop : tie.InvT-loop
-Inv-loop cells n low high i₀ i =
-    (i ≤ n) × (all (between low high) (front 0 n cells) ≡ all (between low high) (drop i (front 0 n cells)))
+Inv-loop cells n low high top each₀ i₀ each i =
+    (i ≤ n) × (tested (between low high) n cells i each ≡ all (between low high) (front 0 n cells))
 
 abbrev μ-loop : tie.MeasureT-loop
-μ-loop cells n low high i₀ i = n - i
+μ-loop cells n low high top each₀ i₀ each i = n - i
+
+as-cell-requires : tie.Need-as-cell-requires Inv-loop μ-loop
+as-cell-requires c κs = search needs
 
 loop-holds : tie.Need-loop-holds Inv-loop μ-loop
 loop-holds c = (search needs, refl)
 
-mul-x : tie.Need-mul-x Inv-loop μ-loop
-mul-x c = search needs
+mul-is-between : tie.Need-mul-is-between Inv-loop μ-loop
+mul-is-between c = search needs
 
-shared-slice-read-x : tie.Need-shared-slice-read-x Inv-loop μ-loop
-shared-slice-read-x c = search needs
+shared-slice-read-is-between : tie.Need-shared-slice-read-is-between Inv-loop μ-loop
+shared-slice-read-is-between c = search needs
 
-returns : tie.Need-returns Inv-loop μ-loop
-unfolding all
-returns c =
-    rw (
-      c .before .before .before .loop .inv .1,
-      front-at _ _ _ (c .before .before .loop-test .taken),
-      lt-leb _ _ (c .if1 .taken),
-    )
-
-returns-2 : tie.Need-returns-2 Inv-loop μ-loop
-unfolding all
-returns-2 c =
-    rw (
-      c .before .before .before .before .loop .inv .1,
-      front-at _ _ _ (c .before .before .before .loop-test .taken),
-      le-leb _ _ (c .before .if1 .left),
-      lt-leb _ _ (c .if2 .taken),
-    )
+is-between-requires : tie.Need-is-between-requires Inv-loop μ-loop
+is-between-requires c κs = search needs
 
 add-i : tie.Need-add-i Inv-loop μ-loop
 add-i c = search needs
@@ -52,20 +41,26 @@ loop-less : tie.Need-loop-less Inv-loop μ-loop
 loop-less c = search needs
 
 loop-again : tie.Need-loop-again Inv-loop μ-loop
-unfolding all
-loop-again c = (
-  search needs,
-  rw (
-    c .before .before .before .before .loop .inv .1,
-    front-at _ _ _ (c .before .before .before .loop-test .taken),
-    le-leb _ _ (c .before .if1 .left),
-    le-leb _ _ (c .if2 .left),
-  ),
-)
+loop-again c =
+    let at = c .before .before .before .before in
+    let args = at .before .before .before .args in
+    let here = c .before .before .before .loop-test .taken in
+    let test = between (args .low) (args .high) in
+    let cells = args .cells .now in
+    let i = at .loop .i in
+    let x = getD cells i 0 in
+    let fits : x ≤ 65535 = omega (arith, at .before .before .shared-slice-known .given i) in
+    let bound : c .before .is-between .result ≡ test x
+    = c .before .is-between .ensures ∙ ap (λ t. between (args .low) t x) (at .before .as-cell .ensures) ∙ between-cell _ _ x fits in (
+      omega arith,
+      ⊎-elim
+          (λ w. rw (w .1) (tested-failed test (args .n) cells i here (at .loop .each) (sym bound ∙ not-true _ (w .0 .taken)) ∙ at .loop .inv .1))
+          (λ w. rw (w .1) (tested-passed test (args .n) cells i here (at .loop .each) (sym bound ∙ not-false _ (w .0 .left)) ∙ at .loop .inv .1))
+          (c .if1 .came),
+    )
 
-returns-3 : tie.Need-returns-3 Inv-loop μ-loop
-unfolding all
-returns-3 c = rw (c .before .loop .inv .1, front-end _ _ _ (c .loop-test .left))
+returns : tie.Need-returns Inv-loop μ-loop
+returns c = sym (tested-all _ _ _ _ _ (c .loop-test .left)) ∙ c .before .loop .inv .1
 
 pub all-between-spec : {M : Type 1} → statement M
 all-between-spec =
@@ -73,12 +68,12 @@ all-between-spec =
     (tie.spec
     Inv-loop
     μ-loop
+    as-cell-requires
     loop-holds
-    mul-x
-    shared-slice-read-x
-    returns
-    returns-2
+    mul-is-between
+    shared-slice-read-is-between
+    is-between-requires
     add-i
     loop-less
     loop-again
-    returns-3)
+    returns)

@@ -3,7 +3,7 @@ use mathlib.Core.Path.{sym, _∙_}
 use borrow.Author.Needs.{needs}
 use borrow.Author.Tests.{not-true, not-false}
 use Rattle.window.specs.View.{viewOf}
-use Rattle.window_fill.proofs.Ticked.{tickAt-loud, tickAt-pushed}
+use Rattle.window_fill.proofs.Ticked.{tickAt-loud, tickAt-queued}
 use Rattle.window_fill.proofs.tick.tick_at.Statement.{statement}
 use Rattle.window_fill.proofs.tick.tick_at.Tie as tie
 
@@ -23,8 +23,9 @@ returns-2 : tie.Need-returns-2
 unfolding viewOf
 returns-2 c =
     let tested = c .before .before .before .before .before in
+    let start = tested .before .before in
     let quiet = sym (tested .before .is-quiet .ensures) ∙ not-false _ (tested .if1 .left) in
-    c .requeue .ensures ∙ rw (c .before .push .ensures) (sym (tickAt-pushed _ _ _ (tested .before .before .pre) quiet))
+    c .requeue .ensures ∙ rw (c .before .push .ensures) (sym (tickAt-queued _ _ _ (start .pre .0) (start .pre .1) quiet))
 
 pub tick-at-spec : {M : Type 1} → statement M
 tick-at-spec = tie.close (tie.spec is-quiet-requires returns push-requires requeue-requires returns-2)
