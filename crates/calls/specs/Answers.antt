@@ -59,10 +59,10 @@ cond-same false x = refl
 -- ------------------------------------------------------------------------
 -- The rules
 
-pub start-numbered : (ns : List ℕ) (count limit spacing : ℕ) (reports : List Report) (p : PlayerView) →
-    Numbered (startRule ns count limit spacing reports p .answer)
-start-numbered ns count limit spacing reports p =
-    numbered answers _ (simp (startRule-refusals ns count limit spacing reports p, cond-in, done-in, cond-same))
+pub start-numbered : (ns : List ℕ) (count limit spacing : ℕ) (first : Term) (reports : List Report) (p : PlayerView) →
+    Numbered (startRule ns count limit spacing first reports p .answer)
+start-numbered ns count limit spacing first reports p =
+    numbered answers _ (simp (startRule-refusals ns count limit spacing first reports p, cond-in, done-in, cond-same))
 
 pub main-numbered : (ns : List ℕ) (i : ℕ) (p : PlayerView) → Numbered (mainRule ns i p .answer)
 main-numbered ns i p = numbered answers _ (simp (mainRule-refusals ns i p, cond-in, done-in, cond-same))

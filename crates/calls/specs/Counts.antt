@@ -8,6 +8,7 @@ use lib.Dec.{eqb}
 use Rattle.journal.specs.Entry.{countOf, entriesOf}
 use Rattle.record.specs.declared.Taken.{Taken}
 use Rattle.record.specs.Record as Take
+use Rattle.rules.specs.declared.Term.{Term}
 use Rattle.rules.specs.Rules.{speaks}
 use Rattle.window.specs.Promise.{numberOf}
 use Rattle.player.specs.declared.Player.{Player}
@@ -33,7 +34,7 @@ takenAt w (ack v r) h = false
 takenAt w (late-ack v t i r) h = false
 takenAt w (drop v r) h = false
 takenAt w (join v r) h = false
-takenAt w (start limit spacing silent r) h = false
+takenAt w (start limit spacing first silent r) h = false
 takenAt w (append e) h = false
 
 -- a Main answered 0
@@ -47,7 +48,7 @@ mainRead (ack v r) h = false
 mainRead (late-ack v t i r) h = false
 mainRead (drop v r) h = false
 mainRead (join v r) h = false
-mainRead (start limit spacing silent r) h = false
+mainRead (start limit spacing first silent r) h = false
 mainRead (append e) h = false
 
 -- The number of calls since the last fault or append that a test picks; n of them are counted before the list.
@@ -91,6 +92,6 @@ pub record Counts (count silent : ℕ) (h : Host) (calls : List Call) : Type 0 w
 -- W4's counts of the calls, of whatever demand 3 of the calls speaks of
 abbrev pub ExactCountsCalls : Type 0
 ExactCountsCalls =
-    (before : Player) (ns : List ℕ) (count limit spacing silent : ℕ) (r : Played) →
-    FirstStart before ns count limit spacing silent r → numberOf (r .answer) ≡ 0 →
-    (calls : List Call) → MadeAll (opened (r .player) ns count) calls → Counts count silent (opened (r .player) ns count) calls
+    (before : Player) (ns : List ℕ) (count limit spacing : ℕ) (first : Term) (silent : ℕ) (r : Played) →
+    FirstStart before ns count limit spacing first silent r → numberOf (r .answer) ≡ 0 →
+    (calls : List Call) → MadeAll (opened (r .player) first ns count) calls → Counts count silent (opened (r .player) first ns count) calls

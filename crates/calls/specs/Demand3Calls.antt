@@ -15,6 +15,7 @@ use Rattle.lists.specs.Keep.{keep}
 use Rattle.record.specs.declared.Record.{Record}
 use Rattle.record.specs.Record.{newRecord, takeEntry, takeAll}
 use Rattle.record.specs.Laws.{takeNumbers-placed}
+use Rattle.rules.specs.declared.Term.{Term}
 use Rattle.rules.specs.View.{WindowView}
 use Rattle.rules.specs.Window.{Report}
 use Rattle.rules.specs.Rules.{Outcome, speaks, startRule}
@@ -132,55 +133,57 @@ newSide-ends : (vs : List WindowView) → map endOf (map newSide vs) ≡ replica
 newSide-ends [] = refl
 newSide-ends (v ∷ vs) = ap (λ l. newEnd ∷ l) (newSide-ends vs)
 
-module _ (before : Player) (ns : List ℕ) (count limit spacing silent : ℕ) (r : Played)
-    (made : FirstStart before ns count limit spacing silent r) (done : numberOf (r .answer) ≡ 0) where
+module _ (before : Player) (ns : List ℕ) (count limit spacing : ℕ) (first : Term) (silent : ℕ) (r : Played)
+    (made : FirstStart before ns count limit spacing first silent r) (done : numberOf (r .answer) ≡ 0) where
   abbrev told-first : List Report
   told-first = newReports silent count
 
-  abbrev first : Outcome
-  first = startRule ns count limit spacing told-first (playerOf before)
+  abbrev starts : Outcome
+  starts = startRule ns count limit spacing first told-first (playerOf before)
 
-  abbrev firstIn : Outcome
-  firstIn = firstStart (playerOf before) (entriesOf ns) count limit spacing silent
+  abbrev startsIn : Outcome
+  startsIn = firstStart (playerOf before) (entriesOf ns) count limit spacing first silent
 
-  started-done : StartDone ns count limit spacing told-first first
-  started-done = startRule-done ns count limit spacing told-first (playerOf before) (sym (made .answer) ∙ done)
+  started-done : StartDone ns count limit spacing first told-first starts
+  started-done = startRule-done ns count limit spacing first told-first (playerOf before) (sym (made .answer) ∙ done)
 
   -- a journal that Start takes is the numbers of its entries
   whole : numbersOf (entriesOf ns) ≡ ns
   whole = numbersOf-entriesOf ns (eqb-true _ _ (and-left _ _ (started-done .given .journal)))
 
-  first-same : firstIn ≡ first
-  first-same = ap (λ ns. startRule ns count limit spacing told-first (playerOf before)) whole
+  first-same : startsIn ≡ starts
+  first-same = ap (λ ns. startRule ns count limit spacing first told-first (playerOf before)) whole
 
-  pub opened-shows : Shows (opened (r .player) ns count) (W.opened (entriesOf ns) firstIn)
+  pub opened-shows : Shows (opened (r .player) first ns count) (W.opened (entriesOf ns) first startsIn)
   unfolding W.opened
   opened-shows = record {
     player =
         made .next
         ∙ ap (λ vs. record {
-          limit = first .next .limit;
-          spacing = first .next .spacing;
-          current = first .next .current;
+          limit = starts .next .limit;
+          spacing = starts .next .spacing;
+          current = starts .next .current;
           windows = vs;
         })
-        (sym (map-map (λ p. p .view) newSide (first .next .windows) ∙ map-id (first .next .windows)))
-        ∙ ap (λ o. playerIn (W.opened (entriesOf ns) o)) (sym first-same);
+        (sym (map-map (λ p. p .view) newSide (starts .next .windows) ∙ map-id (starts .next .windows)))
+        ∙ ap (λ o. playerIn (W.opened (entriesOf ns) first o)) (sym first-same);
     journal = sym whole;
     windows =
         ap (λ n. replicate n newEnd) (sym (started-done .windows))
-        ∙ sym (newSide-ends (first .next .windows))
+        ∙ sym (newSide-ends (starts .next .windows))
         ∙ ap (λ o. map endOf (map newSide (o .next .windows))) (sym first-same);
+    greatest = refl;
   }
 
-  pub first-done : firstIn .answer ≡ 0
+  pub first-done : startsIn .answer ≡ 0
   first-done = ap (λ o. o .answer) first-same ∙ sym (made .answer) ∙ done
 
-  delivers : (calls : List Call) → MadeAll (opened (r .player) ns count) calls → Delivers count silent (opened (r .player) ns count) calls
+  delivers : (calls : List Call) → MadeAll (opened (r .player) first ns count) calls →
+      Delivers count silent (opened (r .player) first ns count) calls
   delivers calls met =
-      delivers-shown count opened-shows (opened-reached (playerOf before) (entriesOf ns) count limit spacing silent first-done) calls met
-      silent (demand-3 (playerOf before) (entriesOf ns) count limit spacing silent (map callStep calls) first-done)
+      delivers-shown count opened-shows (opened-reached (playerOf before) (entriesOf ns) count limit spacing first silent first-done)
+      calls met silent (demand-3 (playerOf before) (entriesOf ns) count limit spacing first silent (map callStep calls) first-done)
 
--- Demand 3 of the calls, for every W, batch limit, spacing, set of silent windows, journal and list of calls
+-- Demand 3 of the calls, for every W, batch limit, spacing, first term, set of silent windows, journal and list of calls
 pub demand-3-calls : Demand3Calls
 demand-3-calls = delivers

@@ -68,7 +68,7 @@ module _ {h : Host} {wd : World} (is : Shows h wd) where
   takes-picked w (late-ack v t i r) made = refl
   takes-picked w (drop v r) made = refl
   takes-picked w (join v r) made = refl
-  takes-picked w (start limit spacing silent r) made = refl
+  takes-picked w (start limit spacing first silent r) made = refl
   takes-picked w (append e) made = refl
 
   mains-picked : (c : Call) → Made h c → Picks mainRead isMain c
@@ -82,7 +82,7 @@ module _ {h : Host} {wd : World} (is : Shows h wd) where
   mains-picked (late-ack v t i r) made = refl
   mains-picked (drop v r) made = refl
   mains-picked (join v r) made = refl
-  mains-picked (start limit spacing silent r) made = refl
+  mains-picked (start limit spacing first silent r) made = refl
   mains-picked (append e) made = refl
 
 -- ------------------------------------------------------------------------
@@ -154,10 +154,10 @@ module _ (count silent : ℕ) {h : Host} {wd : World} (is : Shows h wd) (reached
         omega (arith, read-shown, length-shown now-shown);
   }
 
--- Document 02's counts of the calls, for every W, batch limit, spacing, set of silent windows, journal and list of calls
+-- Document 02's counts of the calls, for every W, batch limit, spacing, first term, set of silent windows, journal and list of calls
 pub exact-counts-calls : ExactCountsCalls
-exact-counts-calls before ns count limit spacing silent r made done calls all =
-    let first = first-done before ns count limit spacing silent r made done in
-    counts-shown count silent (opened-shows before ns count limit spacing silent r made done)
-    (opened-reached (playerOf before) (entriesOf ns) count limit spacing silent first) calls all
-    (exact-counts (playerOf before) (entriesOf ns) count limit spacing silent (map callStep calls) first)
+exact-counts-calls before ns count limit spacing first silent r made done calls all =
+    let begun = first-done before ns count limit spacing first silent r made done in
+    counts-shown count silent (opened-shows before ns count limit spacing first silent r made done)
+    (opened-reached (playerOf before) (entriesOf ns) count limit spacing first silent begun) calls all
+    (exact-counts (playerOf before) (entriesOf ns) count limit spacing first silent (map callStep calls) begun)

@@ -1,7 +1,7 @@
--- Document 01, "Whole runs", with document 02's acks (W1), silent windows (W3) and ticks (W5), of the calls as `src/` has them: what a host
--- holds, what each call is handed and gives back, what the calls promise of that, and what the host holds afterwards. Each call is handed
--- the player, record and journal as the calls before left them.
-use Prim.Native.Nat.{ℕ, _<_}
+-- Document 01, "Whole runs", with document 02's acks (W1), silent windows (W3), ticks (W5) and first term (W7), of the calls as `src/` has
+-- them: what a host holds, what each call is handed and gives back, what the calls promise of that, and what the host holds afterwards.
+-- Each call is handed the player, record and journal as the calls before left them.
+use Prim.Native.Nat.{ℕ, _<_, max}
 use mathlib.Core.Path.{_≡_}
 use mathlib.Core.List.{List, [], _∷_, _++_, map}
 use mathlib.Core.Bool.{Bool, true, false, cond, _||_}
@@ -46,11 +46,12 @@ pub record WindowEnd : Type 0 where
   pub back : List Ack
   pub taken : List (List ℕ)
 
--- a host: the player as the last call gave it back, the journal's numbers, and the windows' ends, W of them
+-- a host: the player as the last call gave it back, the journal's numbers, the windows' ends, W of them, and the greatest term used so far
 pub record Host : Type 0 where
   pub player : Player
   pub journal : List ℕ
   pub windows : List WindowEnd
+  pub greatest : ℕ
 
 -- a new window, with empty lines; it also stands where there is no window
 abbrev pub newEnd : WindowEnd
@@ -67,10 +68,10 @@ heldFor w p = windowAt w (playerOf p)
 -- Parts of a host replaced
 
 abbrev pub withPlayer : Player → Host → Host
-withPlayer p h = record { player = p; journal = h .journal; windows = h .windows }
+withPlayer p h = record { player = p; journal = h .journal; windows = h .windows; greatest = h .greatest }
 
 abbrev pub withEnd : ℕ → WindowEnd → Host → Host
-withEnd w d h = record { player = h .player; journal = h .journal; windows = set (h .windows) w d }
+withEnd w d h = record { player = h .player; journal = h .journal; windows = set (h .windows) w d; greatest = h .greatest }
 
 -- the end of window w changed
 abbrev pub changed : ℕ → (WindowEnd → WindowEnd) → Host → Host
@@ -84,7 +85,19 @@ abbrev pub cleared : WindowEnd → WindowEnd
 cleared d = withLines [] [] d
 
 abbrev pub clearedAll : Host → Host
-clearedAll h = record { player = h .player; journal = h .journal; windows = map cleared (h .windows) }
+clearedAll h = record { player = h .player; journal = h .journal; windows = map cleared (h .windows); greatest = h .greatest }
+
+-- a term is used: the greatest is not below it
+abbrev pub raised : Term → Host → Host
+raised t h = record { player = h .player; journal = h .journal; windows = h .windows; greatest = max (h .greatest) (t .0) }
+
+-- Join answered 0: both ways of the window's line are emptied, and the term that the player holds for it is used
+abbrev pub rejoined : ℕ → Host → Host
+rejoined w h = raised (heldFor w (h .player) .term) (changed w cleared h)
+
+-- Start answered 0: both ways of every line are emptied, and the first term is used
+abbrev pub restarted : Term → Host → Host
+restarted first h = raised first (clearedAll h)
 
 -- a batch put on the line
 abbrev pub putOn : List Sent → WindowEnd → WindowEnd
@@ -95,9 +108,9 @@ putOn batch d = withLines (d .line ++ batch) (d .back) d
 
 -- A call: what it was handed beside the player, record and journal, and then what it gave back. Send is lent an output and leaves `out`.
 -- Take is lent the front entry of its window's line, Ack is handed the front ack, Join the window's last index, and Start W and the last
--- index of each window that is not silent: the host has no choice there. It chooses the batch limit, the spacing and the set of silent
--- windows. A Take says whether it acks an entry that is not the last of its batch. `late-ack` is an Ack offer of an older term. An append
--- is the host's own.
+-- index of each window that is not silent: the host has no choice there. It chooses the batch limit, the spacing, the first term and the
+-- set of silent windows. A Take says whether it acks an entry that is not the last of its batch. `late-ack` is an Ack offer of an older
+-- term. An append is the host's own.
 pub data Call : Type 0 where
   main : (index : Index) (gave : Played) → Call
   catch : (w : ℕ) (t : Term) (index : Index) (gave : Played) → Call
@@ -108,7 +121,7 @@ pub data Call : Type 0 where
   late-ack : (w : ℕ) (t : Term) (index : Index) (gave : Played) → Call
   drop : (w : ℕ) (gave : Played) → Call
   join : (w : ℕ) (gave : Played) → Call
-  start : (limit spacing silent : ℕ) (gave : Played) → Call
+  start : (limit spacing : ℕ) (first : Term) (silent : ℕ) (gave : Played) → Call
   append : (e : Entry) → Call
 
 -- the report of a window: the last index in its record
@@ -130,7 +143,8 @@ abbrev pub MadeAck : ℕ → Played → List Ack → Host → Type 0
 MadeAck w r [] h = Unit {0}
 MadeAck w r (a ∷ rest) h = Meets (h .player) r (ackRule (h .journal) w (a .term) (a .index) (playerOf (h .player)))
 
--- what a call gave meets its promise as `src/` states it, of what it was handed; a late Ack is late, and no append goes past 65,535 entries
+-- what a call gave meets its promise as `src/` states it, of what it was handed; a late Ack is late, the first term of a Start is above
+-- every term used so far, and no append goes past 65,535 entries
 abbrev pub Made : Host → Call → Type 0
 Made h (main i r) = Meets (h .player) r (mainRule (h .journal) (i .0) (playerOf (h .player)))
 Made h (catch w t i r) = Meets (h .player) r (catchRule (h .journal) w t (i .0) (playerOf (h .player)))
@@ -143,10 +157,11 @@ Made h (ack w r) = MadeAck w r (endAt w h .back) h
 Made h (late-ack w t i r) = (isLate w t h ≡ true) × (Meets (h .player) r (ackRule (h .journal) w t (i .0) (playerOf (h .player))))
 Made h (drop w r) = Meets (h .player) r (dropRule (h .journal) w (playerOf (h .player)))
 Made h (join w r) = Meets (h .player) r (joinRule (h .journal) w (reportOf (endAt w h)) (playerOf (h .player)))
-Made h (start limit spacing silent r) =
+Made h (start limit spacing first silent r) =
     let reports : List Report = said silent (map reportOf (h .windows)) in
-    Starts (h .player) (countOf (h .journal)) (length (h .windows)) limit spacing reports r
-    (startRule (h .journal) (length (h .windows)) limit spacing reports (playerOf (h .player)))
+    (h .greatest < first .0)
+    × (Starts (h .player) (countOf (h .journal)) (length (h .windows)) limit spacing first reports r
+    (startRule (h .journal) (length (h .windows)) limit spacing first reports (playerOf (h .player))))
 Made h (append e) = countOf (h .journal) < 65535
 
 -- ------------------------------------------------------------------------
@@ -156,7 +171,7 @@ Made h (append e) = countOf (h .journal) < 65535
 abbrev pub isDone : Played → Bool
 isDone r = eqb (numberOf (r .answer)) 0
 
--- the player that a call gave back, and where it was answered 0 a change of the lines
+-- the player that a call gave back, and where it was answered 0 a change of the host after it
 abbrev pub called : Played → (Host → Host) → Host → Host
 called r f h = cond (isDone r) (f (withPlayer (r .player) h)) (withPlayer (r .player) h)
 
@@ -204,9 +219,14 @@ after (take w acks t) h = changed w (λ d. takeFront acks t (d .line) d) h
 after (ack w r) h = ackFront w r (endAt w h .back) h
 after (late-ack w t i r) h = withPlayer (r .player) h
 after (drop w r) h = withPlayer (r .player) h
-after (join w r) h = called r (changed w cleared) h
-after (start limit spacing silent r) h = called r clearedAll h
-after (append e) h = record { player = h .player; journal = h .journal ++ numbersOf (e ∷ []); windows = h .windows }
+after (join w r) h = called r (rejoined w) h
+after (start limit spacing first silent r) h = called r (restarted first) h
+after (append e) h = record {
+  player = h .player;
+  journal = h .journal ++ numbersOf (e ∷ []);
+  windows = h .windows;
+  greatest = h .greatest;
+}
 
 -- ------------------------------------------------------------------------
 -- Lists of calls
@@ -221,6 +241,6 @@ unfoldable pub hostAfter : Host → List Call → Host
 hostAfter h [] = h
 hostAfter h (c ∷ cs) = hostAfter (after c h) cs
 
--- the beginning: the player that a Start gave back, a journal, and W new windows with empty lines
-abbrev pub opened : Player → List ℕ → ℕ → Host
-opened p ns count = record { player = p; journal = ns; windows = replicate count newEnd }
+-- the beginning: the player that a Start gave back, its first term, a journal, and W new windows with empty lines
+abbrev pub opened : Player → Term → List ℕ → ℕ → Host
+opened p first ns count = record { player = p; journal = ns; windows = replicate count newEnd; greatest = first .0 }

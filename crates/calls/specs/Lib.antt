@@ -2,6 +2,7 @@
 pub mod Host
 pub mod Statement
 pub mod Counts
+pub mod Stragglers
 pub mod Shows
 pub mod Sends
 pub mod Steps
@@ -14,3 +15,4 @@ pub mod CallFor
 pub mod NoneCan
 pub mod Demand3Calls
 pub mod ExactCountsCalls
+pub mod OldTermsCalls

@@ -29,7 +29,7 @@ isWork-step (ack w r) = refl
 isWork-step (late-ack w t i r) = refl
 isWork-step (drop w r) = refl
 isWork-step (join w r) = refl
-isWork-step (start limit spacing silent r) = refl
+isWork-step (start limit spacing first silent r) = refl
 isWork-step (append e) = refl
 
 module _ {h : Host} {wd : World} (is : Shows h wd) (r : Reached wd) (none : NoneCan h) where
@@ -60,5 +60,5 @@ module _ {h : Host} {wd : World} (is : Shows h wd) (r : Reached wd) (none : None
   none-steps (W.late-ack w t i) work = quiet-late w t i
   none-steps (W.drop w) work = absurd (false≢true work)
   none-steps (W.join w) work = absurd (false≢true work)
-  none-steps (W.start limit spacing silent) work = absurd (false≢true work)
+  none-steps (W.start limit spacing first silent) work = absurd (false≢true work)
   none-steps (W.append e) work = absurd (false≢true work)

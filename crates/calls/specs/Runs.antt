@@ -31,7 +31,7 @@ follows is r (ack w g) made = follows-ack is w g made
 follows is r (late-ack w t i g) made = follows-late is w t i g made
 follows is r (drop w g) made = follows-drop is w g made
 follows is r (join w g) made = follows-join is w g made
-follows is r (start limit spacing silent g) made = follows-start is limit spacing silent g made
+follows is r (start limit spacing first silent g) made = follows-start is limit spacing first silent g made
 follows is r (append e) made = follows-append is e made
 
 -- A result to be read: whether a call changes anything does not depend on which of the results that meet its promise it gives.
@@ -54,7 +54,7 @@ joinedBy-step w (ack v g) r b e = refl
 joinedBy-step w (late-ack v t i g) r b e = refl
 joinedBy-step w (drop v g) r b e = ap (λ d. cond d (cond (eqb v w) false b) b) (sym e)
 joinedBy-step w (join v g) r b e = ap (λ d. cond d (cond (eqb v w) true b) b) (sym e)
-joinedBy-step w (start limit spacing silent g) r b e = ap (λ d. cond d (speaks silent w) b) (sym e)
+joinedBy-step w (start limit spacing first silent g) r b e = ap (λ d. cond d (speaks silent w) b) (sym e)
 joinedBy-step w (append x) r b e = refl
 
 -- ------------------------------------------------------------------------

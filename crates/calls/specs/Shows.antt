@@ -1,12 +1,12 @@
 -- The relation between a host and a world of `delivery`: the host's values are the world's, the entries in it as five numbers each.
-use Prim.Native.Nat.{ℕ}
+use Prim.Native.Nat.{ℕ, max}
 use mathlib.Core.Path.{_≡_, refl, sym, ap, ap₂, subst₂, _∙_}
 use mathlib.Core.List.{List, [], _∷_, map}
-use mathlib.Core.Bool.{Bool, true, false, cond, _||_}
+use mathlib.Core.Bool.{Bool, true, false, cond}
 use native.Mathlib.Omega.{arith}
 use borrow.Author.Tests.{eqb-true}
 use lib.ListN.{length, getD, set, length-map, List·getD-map}
-use lib.Dec.{leb, ltb, eqb}
+use lib.Dec.{eqb}
 use Rattle.journal.specs.Entry.{fiveOf}
 use Rattle.lists.specs.Set.{map-set}
 use Rattle.rules.specs.declared.Term.{Term}
@@ -20,7 +20,7 @@ use Rattle.player.specs.Promise.{Meets}
 use Rattle.delivery.specs.World.{Side, World, noSide, sideAt, numbersIn, playerIn, withViews, withSide, calledThen}
 use Rattle.delivery.specs.World as W
 use Rattle.delivery.specs.Worlds.{window-in, withPlayer-player, withSide-player, withWindow-same}
-use Rattle.calls.specs.Host.{Sent, WindowEnd, Host, endAt, heldFor, isLate, withPlayer, withEnd, changed, called}
+use Rattle.calls.specs.Host.{Sent, WindowEnd, Host, endAt, heldFor, isLate, withPlayer, withEnd, changed, raised, called}
 
 -- an entry on a world's line in five numbers, as the host holds it
 abbrev pub inNumbers : W.Sent → Sent
@@ -34,6 +34,7 @@ pub record Shows (h : Host) (wd : World) : Type 0 where
   pub player : playerOf (h .player) ≡ playerIn wd
   pub journal : h .journal ≡ numbersIn wd
   pub windows : h .windows ≡ map endOf (wd .sides)
+  pub greatest : h .greatest ≡ wd .greatest
 
 -- what a call of the player gave, as far as the world goes: the rule's answer and next state
 pub record Gives (r : Played) (o : Outcome) : Type 0 where
@@ -53,7 +54,7 @@ module _ {h : Host} {wd : World} (is : Shows h wd) where
   pub shows-held : (w : ℕ) → heldFor w (h .player) ≡ sideAt w wd .view
   shows-held w = ap (windowAt w) (is .player) ∙ window-in w wd
 
-  pub shows-late : (w : ℕ) (t : Term) → isLate w t h ≡ (leb (length (wd .sides)) w || ltb (t .0) (sideAt w wd .view .term .0))
+  pub shows-late : (w : ℕ) (t : Term) → isLate w t h ≡ W.isLate w t wd
   shows-late w t = rw (shows-count, shows-held w)
 
   -- the promise of a call of the player is of what the world has
@@ -84,6 +85,7 @@ module _ {h : Host} {wd : World} (is : Shows h wd) where
     player = e ∙ sym (withPlayer-player wd q n);
     journal = is .journal;
     windows = is .windows ∙ sym (withViews-ends (q .windows) (wd .sides) n);
+    greatest = is .greatest;
   }
 
   -- a window's end and its side
@@ -93,6 +95,16 @@ module _ {h : Host} {wd : World} (is : Shows h wd) where
         is .player ∙ sym (withSide-player w p wd ∙ ap (λ v. withWindow w v (playerIn wd)) same ∙ withWindow-same w wd);
     journal = is .journal;
     windows = ap₂ (λ ds d. set ds w d) (is .windows) e ∙ sym (map-set endOf (wd .sides) w p);
+    greatest = is .greatest;
+  }
+
+  -- a term used
+  pub shows-raised : (t t′ : Term) → t ≡ t′ → Shows (raised t h) (W.raised t′ wd)
+  shows-raised t t′ e = record {
+    player = is .player;
+    journal = is .journal;
+    windows = is .windows;
+    greatest = ap₂ (λ n t. max n (t .0)) (is .greatest) e;
   }
 
 -- ------------------------------------------------------------------------
@@ -113,17 +125,18 @@ module _ {h : Host} {wd : World} (is : Shows h wd) where
       by true e = more (eqb-true _ _ e) (shows-player is (r .player) (o .next) (k .next) n)
       by false e = shows-player is (r .player) (o .next) (k .next) n
 
-  -- the same where the change is of one window's lines
+  -- a change of one window's lines
+  pub shows-lines : (w : ℕ) (f : WindowEnd → WindowEnd) (g : Side → Side) → ((p : Side) → f (endOf p) ≡ endOf (g p)) →
+      ((p : Side) → g p .view ≡ p .view) → Shows (changed w f h) (withSide w (g (sideAt w wd)) wd)
+  shows-lines w f g same views =
+      let p : Side = sideAt w wd in
+      shows-side is w _ (g p) (ap f (shows-end is w) ∙ same p) (views p)
+
+module _ {h : Host} {wd : World} (is : Shows h wd) where
+  -- a call, and where it is answered 0 that change after it
   pub shows-changed : (w : ℕ) (r : Played) (o : Outcome) (f : WindowEnd → WindowEnd) (g : Side → Side) → Gives r o →
       length (o .next .windows) ≡ length (wd .sides) → (o .answer ≡ 0 → (p : Side) → f (endOf p) ≡ endOf (g p)) →
       ((p : Side) → g p .view ≡ p .view) →
       Shows (called r (changed w f) h) (calledThen o (λ wd′. withSide w (g (sideAt w wd′)) wd′) wd .world)
   shows-changed w r o f g k n same views =
-      shows-called r o (changed w f) (λ wd′. withSide w (g (sideAt w wd′)) wd′) k n more
-    where
-      more : o .answer ≡ 0 → Shows (withPlayer (r .player) h) (W.withPlayer (o .next) wd) →
-          Shows (changed w f (withPlayer (r .player) h))
-          (withSide w (g (sideAt w (W.withPlayer (o .next) wd))) (W.withPlayer (o .next) wd))
-      more z is′ =
-          let p : Side = sideAt w (W.withPlayer (o .next) wd) in
-          shows-side is′ w _ (g p) (ap f (shows-end is′ w) ∙ same z p) (views p)
+      shows-called is r o (changed w f) (λ wd′. withSide w (g (sideAt w wd′)) wd′) k n (λ z is′. shows-lines is′ w f g (same z) views)

@@ -12,6 +12,7 @@ use Rattle.lists.specs.Elem.{lastOr}
 use Rattle.lists.specs.Keep.{keep}
 use Rattle.record.specs.declared.Record.{Record}
 use Rattle.record.specs.Record.{newRecord, takeNumbers, takeAll}
+use Rattle.rules.specs.declared.Term.{Term}
 use Rattle.rules.specs.View.{PlayerView}
 use Rattle.rules.specs.Window.{Report}
 use Rattle.rules.specs.Rules.{speaks, startRule}
@@ -59,7 +60,7 @@ begins (ack w r) = false
 begins (late-ack w t i r) = false
 begins (drop w r) = isDone r
 begins (join w r) = isDone r
-begins (start limit spacing silent r) = isDone r
+begins (start limit spacing first silent r) = isDone r
 begins (append e) = true
 
 -- The number of calls since the last fault or append that changed something: the player's state, a record or a line differs after it.
@@ -79,7 +80,7 @@ joinedBy w (ack v r) b = b
 joinedBy w (late-ack v t i r) b = b
 joinedBy w (drop v r) b = cond (isDone r) (cond (eqb v w) false b) b
 joinedBy w (join v r) b = cond (isDone r) (cond (eqb v w) true b) b
-joinedBy w (start limit spacing silent r) b = cond (isDone r) (speaks silent w) b
+joinedBy w (start limit spacing first silent r) b = cond (isDone r) (speaks silent w) b
 joinedBy w (append e) b = b
 
 -- whether window w is joined after the list, where it was or was not before
@@ -98,7 +99,7 @@ isWork (ack w r) = true
 isWork (late-ack w t i r) = true
 isWork (drop w r) = false
 isWork (join w r) = false
-isWork (start limit spacing silent r) = false
+isWork (start limit spacing first silent r) = false
 isWork (append e) = false
 
 -- "None can": no Main, Catch, Send, Written, Take or Ack that the list might go on with would change anything, whatever it gives that meets
@@ -154,15 +155,17 @@ pub record Delivers (count silent : ℕ) (h : Host) (calls : List Call) : Type 0
       (w : ℕ) → w < count → ownFives w (endAt w (hostAfter h calls) .taken) ≡ map fiveOf (own (entriesOf (hostAfter h calls .journal)) w)
 
 -- what the first Start gives meets its promise: it is handed the reports of new windows, and whatever player there was before
-abbrev pub FirstStart : Player → List ℕ → (count limit spacing silent : ℕ) → Played → Type 0
-FirstStart before ns count limit spacing silent r =
+abbrev pub FirstStart : Player → List ℕ → (count limit spacing : ℕ) → Term → (silent : ℕ) → Played → Type 0
+FirstStart before ns count limit spacing first silent r =
     let reports : List Report = newReports silent count in
-    Starts before (countOf ns) count limit spacing reports r (startRule ns count limit spacing reports (playerOf before))
+    Starts before (countOf ns) count limit spacing first reports r (startRule ns count limit spacing first reports (playerOf before))
 
 -- Demand 3 of the calls. The list starts from new windows, empty lines, any journal and a Start answered 0. W, the batch limit, the
--- spacing, the silent windows and the journal are any that this Start takes, and the calls are any that meet their promises.
+-- spacing, the first term, the silent windows and the journal are any that this Start takes, and the calls are any that meet their
+-- promises.
 abbrev pub Demand3Calls : Type 0
 Demand3Calls =
-    (before : Player) (ns : List ℕ) (count limit spacing silent : ℕ) (r : Played) →
-    FirstStart before ns count limit spacing silent r → numberOf (r .answer) ≡ 0 →
-    (calls : List Call) → MadeAll (opened (r .player) ns count) calls → Delivers count silent (opened (r .player) ns count) calls
+    (before : Player) (ns : List ℕ) (count limit spacing : ℕ) (first : Term) (silent : ℕ) (r : Played) →
+    FirstStart before ns count limit spacing first silent r → numberOf (r .answer) ≡ 0 →
+    (calls : List Call) → MadeAll (opened (r .player) first ns count) calls →
+    Delivers count silent (opened (r .player) first ns count) calls

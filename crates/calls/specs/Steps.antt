@@ -35,7 +35,7 @@ callStep (ack w r) = W.ack w
 callStep (late-ack w t i r) = W.late-ack w t (i .0)
 callStep (drop w r) = W.drop w
 callStep (join w r) = W.join w
-callStep (start limit spacing silent r) = W.start limit spacing silent
+callStep (start limit spacing first silent r) = W.start limit spacing first silent
 callStep (append e) = W.append e
 
 -- after a call the host shows the world after its step, and the count of changes begins anew at both or at neither
@@ -130,6 +130,7 @@ module _ {h : Host} {wd : World} (is : Shows h wd) where
               player = is .player;
               journal = ap (λ ns. ns ++ numbersOf (e ∷ [])) (is .journal) ∙ sym (numbersOf-append (wd .journal) e);
               windows = is .windows;
+              greatest = is .greatest;
             });
         anew = rw (lt-ltb (length (wd .journal)) 65535 room);
       }

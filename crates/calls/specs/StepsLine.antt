@@ -4,6 +4,7 @@ use mathlib.Core.Path.{_≡_, refl, sym, ap, ap₂, subst, subst₂, _∙_}
 use mathlib.Core.Logic.{⊎-elim}
 use mathlib.Core.List.{List, [], _∷_, _++_, map, map-append, map-map}
 use mathlib.Core.Bool.{Bool, true, false, cond, _||_}
+use native.Mathlib.Omega.{arith}
 use borrow.Author.Tests.{lt-ltb, le-ltb}
 use lib.ListN.{length, List·getD-eq-default}
 use lib.Seq.{set-getD}
@@ -13,6 +14,7 @@ use Rattle.journal.specs.Entry.{Placed, fiveOf}
 use Rattle.record.specs.declared.Taken.{Taken}
 use Rattle.record.specs.Record.{takeNumbers}
 use Rattle.record.specs.Record as Take
+use Rattle.rules.specs.declared.Term.{Term}
 use Rattle.rules.specs.Window.{Report}
 use Rattle.rules.specs.Rules.{Outcome, windowAt, ackRule, joinRule, sendRule, sendOutput, batchAt, said, startRule}
 use Rattle.rules.specs.Offers.{sendRule-lawful, ackRule-lawful, joinRule-lawful, startRule-done, startRule-refuses}
@@ -23,8 +25,8 @@ use Rattle.delivery.specs.World.{Ack, Side, World, noSide, sideAt, numbersIn, p
 use Rattle.delivery.specs.World as W
 use Rattle.delivery.specs.Invariant.{Reached, lastOf}
 use Rattle.delivery.specs.Worlds.{windows-in}
-use Rattle.calls.specs.Host.{Sent, Host, newEnd, endAt, withEnd, withLines, cleared, clearedAll, putOn, send, take, ack, join, start, reportOf, MadeTake, MadeAck, Made, batchIn, batchTo, takeFront, ackFront, after}
-use Rattle.calls.specs.Shows.{inNumbers, endOf, Shows, Gives, shows-count, shows-end, shows-rule, shows-meets, shows-side, shows-called, shows-changed}
+use Rattle.calls.specs.Host.{Sent, Host, newEnd, endAt, withEnd, withLines, cleared, clearedAll, rejoined, restarted, putOn, send, take, ack, join, start, reportOf, MadeTake, MadeAck, Made, batchIn, batchTo, takeFront, ackFront, after}
+use Rattle.calls.specs.Shows.{inNumbers, endOf, Shows, Gives, shows-count, shows-end, shows-held, shows-rule, shows-meets, shows-side, shows-raised, shows-called, shows-lines, shows-changed}
 use Rattle.calls.specs.Sends.{sendOutput-onLine}
 use Rattle.calls.specs.Steps.{Follows, count-sides, answer-same}
 
@@ -62,7 +64,9 @@ module _ {h : Host} {wd : World} (is : Shows h wd) where
   end-same : (w : ℕ) → Shows (withEnd w (endOf (sideAt w wd)) h) wd
   end-same w =
       subst (λ x. Shows x wd)
-      (sym (ap (λ ds. record { player = h .player; journal = h .journal; windows = ds }) (set-getD (h .windows) w newEnd))
+      (sym
+      (ap (λ ds. record { player = h .player; journal = h .journal; windows = ds; greatest = h .greatest })
+      (set-getD (h .windows) w newEnd))
       ∙ ap (λ d. withEnd w d h) (shows-end is w))
       is
 
@@ -125,8 +129,10 @@ module _ {h : Host} {wd : World} (is : Shows h wd) where
       (subst (λ n. Meets (h .player) r (joinRule (h .journal) w n (playerOf (h .player)))) (ap reportOf (shows-end is w)) made) in
       record {
         shows =
-            shows-changed is w r (joinRule (numbersIn wd) w report (playerIn wd)) cleared W.cleared k
-            (count-sides is (joinRule-lawful (numbersIn wd) w report (playerIn wd))) (λ z p. refl) (λ p. refl);
+            shows-called is r (joinRule (numbersIn wd) w report (playerIn wd)) (rejoined w) (W.rejoined w) k
+            (count-sides is (joinRule-lawful (numbersIn wd) w report (playerIn wd)))
+            (λ z is′.
+            shows-raised (shows-lines is′ w cleared W.cleared (λ p. refl) (λ p. refl)) _ _ (ap (λ v. v .term) (shows-held is′ w)));
         anew = answer-same is _ k;
       }
 
@@ -167,36 +173,40 @@ shows-cleared {h} {wd} is = record {
       (sym (map-map (λ p. p .view) W.cleared (wd .sides)));
   journal = is .journal;
   windows = ap (map cleared) (is .windows) ∙ map-map cleared endOf (wd .sides) ∙ sym (map-map endOf W.cleared (wd .sides));
+  greatest = is .greatest;
 }
 
 module _ {h : Host} {wd : World} (is : Shows h wd) where
-  start-count : (limit spacing silent : ℕ) →
-      length (startRule (numbersIn wd) (length (wd .sides)) limit spacing (said silent (reportsIn wd)) (playerIn wd) .next .windows)
+  start-count : (limit spacing : ℕ) (first : Term) (silent : ℕ) →
+      length (startRule (numbersIn wd) (length (wd .sides)) limit spacing first (said silent (reportsIn wd)) (playerIn wd) .next .windows)
       ≡ length (wd .sides)
-  start-count limit spacing silent =
+  start-count limit spacing first silent =
       let rs : List Report = said silent (reportsIn wd) in
-      let o : Outcome = startRule (numbersIn wd) (length (wd .sides)) limit spacing rs (playerIn wd) in
+      let o : Outcome = startRule (numbersIn wd) (length (wd .sides)) limit spacing first rs (playerIn wd) in
       ⊎-elim
       (λ (e : o .answer ≡ 0).
-      startRule-done (numbersIn wd) (length (wd .sides)) limit spacing rs (playerIn wd) e .windows)
+      startRule-done (numbersIn wd) (length (wd .sides)) limit spacing first rs (playerIn wd) e .windows)
       (λ (n : o .answer ≡ 0 → ⊥).
-      ap (λ q. length (q .windows)) (startRule-refuses (numbersIn wd) (length (wd .sides)) limit spacing rs (playerIn wd) n)
+      ap (λ q. length (q .windows)) (startRule-refuses (numbersIn wd) (length (wd .sides)) limit spacing first rs (playerIn wd) n)
       ∙ windows-in wd)
       (eq-or-ne (o .answer) 0)
 
-  pub follows-start : (limit spacing silent : ℕ) (r : Played) → Made h (start limit spacing silent r) →
-      Follows (start limit spacing silent r) h wd
+  pub follows-start : (limit spacing : ℕ) (first : Term) (silent : ℕ) (r : Played) → Made h (start limit spacing first silent r) →
+      Follows (start limit spacing first silent r) h wd
   unfolding step after
-  follows-start limit spacing silent r made =
+  follows-start limit spacing first silent r (high, made) =
+      let above : wd .greatest < first .0 = omega (arith, high, is .greatest) in
       let n : ℕ = length (wd .sides) in
       let rs : List Report = said silent (reportsIn wd) in
       let reports : map reportOf (h .windows) ≡ reportsIn wd = ap (map reportOf) (is .windows) ∙ map-map reportOf endOf (wd .sides) in
-      let k = shows-rule is (λ ns p. startRule ns n limit spacing rs p)
-      (subst₂ (λ n rs. Gives r (startRule (h .journal) n limit spacing (said silent rs) (playerOf (h .player)))) (shows-count is) reports
+      let k = shows-rule is (λ ns p. startRule ns n limit spacing first rs p)
+      (subst₂ (λ n rs. Gives r (startRule (h .journal) n limit spacing first (said silent rs) (playerOf (h .player))))
+      (shows-count is) reports
       (record { answer = made .answer; next = made .next })) in
       record {
         shows =
-            shows-called is r (startRule (numbersIn wd) n limit spacing rs (playerIn wd)) clearedAll W.clearedAll k
-            (start-count limit spacing silent) (λ z. shows-cleared);
-        anew = answer-same is _ k;
+            rw (lt-ltb (wd .greatest) (first .0) above)
+            (shows-called is r (startRule (numbersIn wd) n limit spacing first rs (playerIn wd)) (restarted first) (W.restarted first) k
+            (start-count limit spacing first silent) (λ z is′. shows-raised (shows-cleared is′) first first refl));
+        anew = rw (lt-ltb (wd .greatest) (first .0) above) (answer-same is _ k);
       }

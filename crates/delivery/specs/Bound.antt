@@ -170,7 +170,7 @@ begins-work (ack w) reply e = refl
 begins-work (late-ack w t i) reply e = refl
 begins-work (drop w) reply e = absurd (false≢true e)
 begins-work (join w) reply e = absurd (false≢true e)
-begins-work (start b spacing silent) reply e = absurd (false≢true e)
+begins-work (start b spacing first silent) reply e = absurd (false≢true e)
 begins-work (append x) reply e = absurd (false≢true e)
 
 -- A result to be read: where no work is left, none can.

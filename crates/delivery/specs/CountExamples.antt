@@ -57,9 +57,9 @@ evening = entry4 3 1 1 50400 ∷ entry4 1 2 1 350 ∷ entry4 2 3 1 0 ∷ entry4 
 -- is refused are not counted, nor is what was taken and read before the Start.
 abbrev pub startedSteps : List Step
 startedSteps =
-    main 1 ∷ main 2 ∷ send 0 room ∷ take 0 false ∷ send 1 room ∷ take 1 false ∷ start 2 wide 0
-    ∷ main 2 ∷ main 3 ∷ main 4 ∷ main 5 ∷ send 0 room ∷ written 0 (term 1) ∷ take 0 false ∷ take 0 false ∷ ack 0
-    ∷ send 1 room ∷ written 1 (term 1) ∷ take 1 false ∷ take 1 false ∷ ack 1 ∷ []
+    main 1 ∷ main 2 ∷ send 0 room ∷ take 0 false ∷ send 1 room ∷ take 1 false ∷ start 2 wide (term 2) 0
+    ∷ main 2 ∷ main 3 ∷ main 4 ∷ main 5 ∷ send 0 room ∷ written 0 (term 2) ∷ take 0 false ∷ take 0 false ∷ ack 0
+    ∷ send 1 room ∷ written 1 (term 2) ∷ take 1 false ∷ take 1 false ∷ ack 1 ∷ []
 
 pub since-start : tally (openedWith evening 2) startedSteps ≡ record {
   takes0 = 1;
@@ -158,12 +158,12 @@ none-to-do : workLeft (run oneEntry fiveMoves) ≡ 0
 unfolding computed workLeft total
 none-to-do = refl
 
-one-started : firstStart nobody (entry4 3 1 1 50400 ∷ []) 2 2 wide 0 .answer ≡ 0
+one-started : firstStart nobody (entry4 3 1 1 50400 ∷ []) 2 2 wide (term 1) 0 .answer ≡ 0
 unfolding computed
 one-started = refl
 
 pub premise-met : PremiseMet
 unfolding computed counting
 premise-met =
-    let reached : Reached oneEntry = opened-reached nobody (entry4 3 1 1 50400 ∷ []) 2 2 wide 0 one-started in
+    let reached : Reached oneEntry = opened-reached nobody (entry4 3 1 1 50400 ∷ []) 2 2 wide (term 1) 0 one-started in
     record { joined0 = refl; joined1 = refl; none = none-left (run oneEntry fiveMoves) (reached-run oneEntry fiveMoves reached) none-to-do }

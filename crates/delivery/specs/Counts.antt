@@ -8,11 +8,12 @@ use lib.ListN.{length}
 use lib.Dec.{eqb}
 use Rattle.journal.specs.declared.Entry.{Entry}
 use Rattle.journal.specs.Own.{isOwn}
+use Rattle.rules.specs.declared.Term.{Term}
 use Rattle.rules.specs.View.{PlayerView}
 use Rattle.rules.specs.Rules.{speaks}
 use Rattle.planner.specs.Plan.{Figures, figures, planned, planRule}
-use Rattle.delivery.specs.World.{Sent, World, sideAt, numbersIn, Step, main, catch, written, send, take, ack, late-ack, drop, join, start, append, Stepped, step, run, opened}
-use Rattle.delivery.specs.Statement.{isDone, begins, joinedAfter, NoneCan, firstStart}
+use Rattle.delivery.specs.World.{Sent, World, sideAt, numbersIn, Step, main, catch, written, send, take, ack, late-ack, drop, join, start, append, Stepped, step, run}
+use Rattle.delivery.specs.Statement.{isDone, begins, joinedAfter, NoneCan, firstStart, firstWorld}
 
 -- one of window w's own at the front of its line, and no tick
 abbrev pub ownFront : ℕ → List Sent → Bool
@@ -30,7 +31,7 @@ isTakeOf w wd (ack v) = false
 isTakeOf w wd (late-ack v t i) = false
 isTakeOf w wd (drop v) = false
 isTakeOf w wd (join v) = false
-isTakeOf w wd (start b e silent) = false
+isTakeOf w wd (start b e first silent) = false
 isTakeOf w wd (append e) = false
 
 -- a Main
@@ -44,7 +45,7 @@ isMain wd (ack v) = false
 isMain wd (late-ack v t i) = false
 isMain wd (drop v) = false
 isMain wd (join v) = false
-isMain wd (start b e silent) = false
+isMain wd (start b e first silent) = false
 isMain wd (append e) = false
 
 -- The number of steps of a kind answered 0 since the last fault or append; n of them are counted before the list.
@@ -86,6 +87,6 @@ pub record Counts (count silent : ℕ) (wd : World) (steps : List Step) : Type 0
 -- W4's counts, of whatever demand 3 speaks of
 abbrev pub ExactCounts : Type 0
 ExactCounts =
-    (before : PlayerView) (j : List Entry) (count limit spacing silent : ℕ) (steps : List Step) →
-    firstStart before j count limit spacing silent .answer ≡ 0 →
-    Counts count silent (opened j (firstStart before j count limit spacing silent)) steps
+    (before : PlayerView) (j : List Entry) (count limit spacing : ℕ) (first : Term) (silent : ℕ) (steps : List Step) →
+    firstStart before j count limit spacing first silent .answer ≡ 0 →
+    Counts count silent (firstWorld before j count limit spacing first silent) steps

@@ -17,13 +17,14 @@ use Rattle.lists.specs.Cases.{and-left, and-right, and-intro}
 use Rattle.lists.specs.All.{all, all-weaken}
 use Rattle.record.specs.Record.{newRecord, takeAll}
 use Rattle.record.specs.Laws.{takeAll-nil, takeAll-new-count, takeAll-last, takeAll-kept}
+use Rattle.rules.specs.declared.Term.{Term}
 use Rattle.rules.specs.View.{PlayerView, noWindow}
 use Rattle.rules.specs.Shape.{shape}
 use Rattle.rules.specs.Window.{isSuspended, Report, silence, startedBy}
 use Rattle.rules.specs.Rules.{Outcome, windowAt, speaks, saidBy, sentFor}
 use Rattle.rules.specs.Offers.{sentFor-isOwn, sentFor-tick, StartDone, said-at, least-le, startRule-done, startNext-at, start-shaped}
 use Rattle.delivery.specs.World.{Side, World, sideAt, playerIn, newSide, opened, Step, run}
-use Rattle.delivery.specs.Statement.{changes, isTick, Leading, Delivers, newReports, firstStart, Demand3}
+use Rattle.delivery.specs.Statement.{changes, isTick, Leading, Delivers, newReports, firstStart, firstWorld, Demand3}
 use Rattle.delivery.specs.Invariant.{Taken, Inv, Reached, lastOf}
 use Rattle.delivery.specs.Worlds.{count-in, withWindows}
 use Rattle.delivery.specs.KeepFault.{keep-start}
@@ -99,17 +100,20 @@ new-taken j w = record {
   recordIs = sym (takeAll-nil newRecord);
 }
 
-module _ (before : PlayerView) (j : List Entry) (count limit spacing silent : ℕ)
-    (done : firstStart before j count limit spacing silent .answer ≡ 0) where
-  -- the first Start, and what it is told
-  abbrev first : Outcome
-  first = firstStart before j count limit spacing silent
+module _ (before : PlayerView) (j : List Entry) (count limit spacing : ℕ) (first : Term) (silent : ℕ)
+    (done : firstStart before j count limit spacing first silent .answer ≡ 0) where
+  -- the first Start, the world after it, and what it is told
+  abbrev starts : Outcome
+  starts = firstStart before j count limit spacing first silent
+
+  abbrev wd₀ : World
+  wd₀ = firstWorld before j count limit spacing first silent
 
   abbrev told-first : List Report
   told-first = newReports silent count
 
-  start-done : StartDone (numbersOf j) count limit spacing told-first first
-  start-done = startRule-done (numbersOf j) count limit spacing told-first before done
+  start-done : StartDone (numbersOf j) count limit spacing first told-first starts
+  start-done = startRule-done (numbersOf j) count limit spacing first told-first before done
 
   -- of each window silence, or a report of 0
   told-at : (w : ℕ) → w < count → getD told-first w silence ≡ saidBy silent w 0
@@ -117,47 +121,47 @@ module _ (before : PlayerView) (j : List Entry) (count limit spacing silent : �
       said-at silent (replicate count 0) w (omega (arith, length-replicate {A = ℕ} count 0))
       ∙ ap (saidBy silent w) (getD-replicate count w 0 0 h)
 
-  pub opened-count : length (opened j first .sides) ≡ count
+  pub opened-count : length (wd₀ .sides) ≡ count
   unfolding opened
   opened-count =
-      length-map (first .next .windows) newSide ∙ start-done .windows
+      length-map (starts .next .windows) newSide ∙ start-done .windows
 
   -- `current` is 0 where a window speaks
-  opened-least : (w : ℕ) → w < count → speaks silent w ≡ true → opened j first .current ≤ 0
+  opened-least : (w : ℕ) → w < count → speaks silent w ≡ true → wd₀ .current ≤ 0
   unfolding opened
   opened-least w h speaking =
       subst⁻¹ (λ c. c ≤ 0) (ap (λ q. q .current) (start-done .next))
       (least-le (countOf (numbersOf j)) told-first w 0 (told-at w h ∙ rw speaking))
 
-  opened-side : (w : ℕ) → w < count → sideAt w (opened j first) ≡ newSide (startedBy (length j) (saidBy silent w 0))
+  pub opened-side : (w : ℕ) → w < count → sideAt w wd₀ ≡ newSide (startedBy first (length j) (saidBy silent w 0))
   unfolding opened
   opened-side w h =
-      List·getD-map newSide (first .next .windows) w noWindow
+      List·getD-map newSide (starts .next .windows) w noWindow
       ∙ ap newSide
       (ap (windowAt w) (start-done .next)
-      ∙ startNext-at (countOf (numbersOf j)) limit spacing told-first w (omega (arith, start-done .given .each))
-      ∙ ap₂ startedBy (count-in (opened j first)) (told-at w h))
+      ∙ startNext-at (countOf (numbersOf j)) limit spacing first told-first w (omega (arith, start-done .given .each))
+      ∙ ap₂ (startedBy first) (count-in wd₀) (told-at w h))
 
-  opened-shaped : shape (numbersOf j) (playerIn (opened j first)) ≡ true
+  opened-shaped : shape (numbersOf j) (playerIn wd₀) ≡ true
   unfolding opened
   opened-shaped =
-      ap (λ vs. shape (numbersOf j) (withWindows (first .next) vs))
-      (map-map (λ p. p .view) newSide (first .next .windows) ∙ map-id (first .next .windows))
-      ∙ start-shaped (numbersOf j) count limit spacing told-first before done
+      ap (λ vs. shape (numbersOf j) (withWindows (starts .next) vs))
+      (map-map (λ p. p .view) newSide (starts .next .windows) ∙ map-id (starts .next .windows))
+      ∙ start-shaped (numbersOf j) count limit spacing first told-first before done
 
-  pub opened-reached : Reached (opened j first)
+  pub opened-reached : Reached wd₀
   unfolding opened
   opened-reached = record {
     inShape = opened-shaped;
     each = λ w h.
         let k : w < count = omega (arith, opened-count) in
-        subst⁻¹ (Inv j (first .next .current) w) (opened-side w k)
-        (keep-start silent (newSide noWindow) (new-taken j w) (opened-least w k));
+        subst⁻¹ (Inv j (starts .next .current) w) (opened-side w k)
+        (keep-start first silent (newSide noWindow) (new-taken j w) (opened-least w k));
   }
 
-  delivers : (steps : List Step) → Delivers count silent (opened j first) steps
+  delivers : (steps : List Step) → Delivers count silent wd₀ steps
   delivers steps =
-      let wd : World = opened j first in
+      let wd : World = wd₀ in
       let reached : Reached (run wd steps) = reached-run wd steps opened-reached in
       let n : length (run wd steps .sides) ≡ count = run-count wd steps opened-reached ∙ opened-count in
       record {
@@ -169,10 +173,10 @@ module _ (before : PlayerView) (j : List Entry) (count limit spacing silent : �
         finish = λ joined none w h.
             taken-all (run wd steps) reached none w (omega arith)
             (joined-run wd steps w (speaks silent w) opened-reached (omega (arith, opened-count))
-            (ap (λ p. isSuspended (p .view .condition)) (opened-side w h) ∙ startedBy-away (speaks silent w) (length j) 0)
+            (ap (λ p. isSuspended (p .view .condition)) (opened-side w h) ∙ startedBy-away (speaks silent w) first (length j) 0)
             ∙ ap not (joined w h));
       }
 
--- Demand 3, for every W, batch limit, spacing, set of silent windows, journal and list of steps
+-- Demand 3, for every W, batch limit, spacing, first term, set of silent windows, journal and list of steps
 pub demand-3 : Demand3
-demand-3 before j count limit spacing silent steps done = delivers before j count limit spacing silent done steps
+demand-3 before j count limit spacing first silent steps done = delivers before j count limit spacing first silent done steps

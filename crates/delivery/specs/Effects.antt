@@ -1,5 +1,5 @@
 -- What a step does, said once: nothing, Main at every window, the work of one window, or a fault or an append.
-use Prim.Native.Nat.{ℕ, suc, _≤_, _<_}
+use Prim.Native.Nat.{ℕ, suc, _≤_, _<_, max}
 use mathlib.Core.Path.{_≡_, ap, _∙_}
 use mathlib.Core.List.{List, [], _∷_, _++_}
 use mathlib.Core.Bool.{Bool, true, false}
@@ -8,11 +8,12 @@ use Rattle.journal.specs.declared.Entry.{Entry}
 use Rattle.journal.specs.Entry.{fiveOf}
 use Rattle.record.specs.Record.{takeNumbers}
 use Rattle.rules.specs.declared.Term.{Term}
+use Rattle.rules.specs.View.{WindowView}
 use Rattle.rules.specs.Shape.{shape}
 use Rattle.rules.specs.Window.{isSuspended, wanted, mainAt, fetched, batchOf, freed, acknowledged, dropped, joined, startedBy}
 use Rattle.rules.specs.Rules.{speaks, saidBy}
 use Rattle.rules.specs.Offers.{Caught, SentOut, WrittenOff, AckTaken}
-use Rattle.delivery.specs.World.{Sent, Ack, Side, World, sideAt, numbersIn, playerIn, withView, withLines, withJournal, withSide, takeFront, cleared, Step, main, catch, send, take, ack, drop, join, start, append, Reply, answered, step}
+use Rattle.delivery.specs.World.{Sent, Ack, Side, World, sideAt, numbersIn, playerIn, withView, withLines, withJournal, withSide, raised, takeFront, cleared, Step, main, catch, send, take, ack, drop, join, start, append, Reply, answered, step}
 use Rattle.delivery.specs.World as W
 use Rattle.delivery.specs.Invariant.{lastOf}
 use Rattle.delivery.specs.Worlds.{withSide-count}
@@ -38,6 +39,7 @@ pub record Mained (wd wd′ : World) : Type 0 where
   pub journal : wd′ .journal ≡ wd .journal
   pub current : wd′ .current ≡ suc (wd .current)
   pub count : length (wd′ .sides) ≡ length (wd .sides)
+  pub greatest : wd′ .greatest ≡ wd .greatest
   pub each : (w : ℕ) → w < length (wd .sides) →
       sideAt w wd′ ≡ withView (mainAt (wd .journal) w (wd .spacing) (suc (wd .current)) (sideAt w wd .view)) (sideAt w wd)
   pub shaped : shape (numbersIn wd′) (playerIn wd′) ≡ true
@@ -57,13 +59,16 @@ pub record WorksAt (s : Step) (wd : World) (w : ℕ) : Type 0 where
   pub world : step s wd .world ≡ withSide w after wd
   pub shaped : shape (numbersIn (step s wd .world)) (playerIn (step s wd .world)) ≡ true
 
--- Start answered 0: each window begins anew from its report, which is not below `current`, or is silent
-pub record Restarted (silent : ℕ) (wd wd′ : World) : Type 0 where
+-- Start answered 0: the first term is above every term used before; on that term each window begins anew from its report, which is not
+-- below `current`, or is silent
+pub record Restarted (first : Term) (silent : ℕ) (wd wd′ : World) : Type 0 where
+  pub above : wd .greatest < first .0
+  pub greatest : wd′ .greatest ≡ max (wd .greatest) (first .0)
   pub journal : wd′ .journal ≡ wd .journal
   pub count : length (wd′ .sides) ≡ length (wd .sides)
   pub least : (w : ℕ) → w < length (wd .sides) → speaks silent w ≡ true → wd′ .current ≤ lastOf (sideAt w wd)
   pub each : (w : ℕ) → w < length (wd .sides) →
-      sideAt w wd′ ≡ cleared (withView (startedBy (length (wd .journal)) (saidBy silent w (lastOf (sideAt w wd)))) (sideAt w wd))
+      sideAt w wd′ ≡ cleared (withView (startedBy first (length (wd .journal)) (saidBy silent w (lastOf (sideAt w wd)))) (sideAt w wd))
   pub shaped : shape (numbersIn wd′) (playerIn wd′) ≡ true
 
 -- what a step does
@@ -73,9 +78,11 @@ pub data Facts (s : Step) (wd : World) : Type 0 where
       step s wd .world ≡ withSide w (withView (dropped (sideAt w wd .view)) (sideAt w wd)) wd →
       shape (numbersIn (step s wd .world)) (playerIn (step s wd .world)) ≡ true → Facts s wd
   joining : (w : ℕ) → s ≡ join w → isDone (step s wd .reply) ≡ true → w < length (wd .sides) → isSuspended (sideAt w wd .view .condition) ≡ true →
-      step s wd .world ≡ withSide w (cleared (withView (joined (wd .current) (lastOf (sideAt w wd)) (sideAt w wd .view)) (sideAt w wd))) wd →
+      (let v : WindowView = joined (wd .current) (lastOf (sideAt w wd)) (sideAt w wd .view) in
+      step s wd .world ≡ raised (v .term) (withSide w (cleared (withView v (sideAt w wd))) wd)) →
       shape (numbersIn (step s wd .world)) (playerIn (step s wd .world)) ≡ true → Facts s wd
-  starting : (b e silent : ℕ) → s ≡ start b e silent → isDone (step s wd .reply) ≡ true → Restarted silent wd (step s wd .world) → Facts s wd
+  starting : (b e : ℕ) (first : Term) (silent : ℕ) → s ≡ start b e first silent → isDone (step s wd .reply) ≡ true →
+      Restarted first silent wd (step s wd .world) → Facts s wd
   appending : (e : Entry) → s ≡ append e → isDone (step s wd .reply) ≡ true → length (wd .journal) < 65535 →
       step s wd .world ≡ withJournal (wd .journal ++ (e ∷ [])) wd → Facts s wd
 

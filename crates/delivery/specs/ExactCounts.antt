@@ -21,8 +21,8 @@ use Rattle.record.specs.Record.{takeNumbers}
 use Rattle.rules.specs.Offers.{shaped}
 use Rattle.planner.specs.Plan.{toTake, figures, planned, planRule}
 use Rattle.planner.specs.PlanLaws.{planRule-planned}
-use Rattle.delivery.specs.World.{Side, World, noSide, sideAt, numbersIn, playerIn, takeFront, Step, Reply, step, run, opened}
-use Rattle.delivery.specs.Statement.{isDone, begins, firstStart}
+use Rattle.delivery.specs.World.{Side, World, noSide, sideAt, numbersIn, playerIn, takeFront, Step, Reply, step, run}
+use Rattle.delivery.specs.Statement.{isDone, begins, firstWorld}
 use Rattle.delivery.specs.Counts.{isTakeOf, isMain, doneSince, leftBy, lastAt, figuresFor, ExactCounts}
 use Rattle.delivery.specs.Invariant.{Taken, Reached}
 use Rattle.delivery.specs.Worlds.{entries-in, count-in, windows-in}
@@ -232,16 +232,16 @@ module _ (wd : World) (steps : List Step) (r : Reached wd) where
         (omega (arith, within-now, is .most, windows-in now))
         ∙ ap (λ j. planned (figures j w (lastAt w left) (now .limit))) (entries-in now)
 
--- Document 02's counts, for every W, batch limit, spacing, set of silent windows, journal and list of steps
+-- Document 02's counts, for every W, batch limit, spacing, first term, set of silent windows, journal and list of steps
 pub exact-counts : ExactCounts
-exact-counts before j count limit spacing silent steps done =
-    let wd : World = opened j (firstStart before j count limit spacing silent) in
-    let r : Reached wd = opened-reached before j count limit spacing silent done in
-    let n : length (wd .sides) ≡ count = opened-count before j count limit spacing silent done in
+exact-counts before j count limit spacing first silent steps done =
+    let wd : World = firstWorld before j count limit spacing first silent in
+    let r : Reached wd = opened-reached before j count limit spacing first silent done in
+    let n : length (wd .sides) ≡ count = opened-count before j count limit spacing first silent done in
     record {
       asked = λ w h. figures-now wd steps r w (omega arith);
       takes = λ joined none w h.
-          let all = demand-3 before j count limit spacing silent steps done .finish joined none w h in
+          let all = demand-3 before j count limit spacing first silent steps done .finish joined none w h in
           omega (arith, takes-so-far wd steps r w (omega arith), none-to-take wd steps r w (omega arith) all);
       mains = λ joined none. omega (arith, mains-so-far wd steps r, all-read (run wd steps) (reached-now wd steps r) none);
     }

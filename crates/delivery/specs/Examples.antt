@@ -1,4 +1,5 @@
--- Runs, and two states that no run reaches, computed on the rules. An example computes the definitions themselves, and no law of them is used: each is true by `refl`.
+-- Runs, and three states that no run reaches, computed on the rules. An example computes the definitions themselves, and no law of them is
+-- used: each is true by `refl`.
 use Prim.Native.Nat.{ℕ, _+_, _*_}
 use mathlib.Core.Path.{_≡_, refl}
 use mathlib.Core.List.{List, [], _∷_}
@@ -16,9 +17,9 @@ use Rattle.rules.specs.View.{normal, WindowView, PlayerView}
 use Rattle.rules.specs.Shape.{windowShape, shape}
 use Rattle.rules.specs.Window.{unheard, check, enqueue, readAt, tickAt, mainAt, fetched, catchIn, catchAt, readyIn, batchOf, launched, sendAt, writtenAt, ackAt, dropAt, joinAt}
 use Rattle.rules.specs.Rules.{speaks, operate, mapWindows, mainRule, catchRule, writtenRule, ackRule, dropRule, joinRule, sendRule, saidFrom, sentFor, spoken, least, startRule}
-use Rattle.delivery.specs.World.{World, sideAt, withViews, withPlayer, onLine, takeFront, Step, main, catch, written, send, take, ack, drop, join, start, Reply, answered, empty, step, run, replies, opened}
+use Rattle.delivery.specs.World.{World, sideAt, withViews, withPlayer, onLine, takeFront, Step, main, catch, written, send, take, ack, late-ack, drop, join, start, Reply, answered, empty, unmade, step, run, replies, opened}
 use Rattle.delivery.specs.Same.{sameList, sameWindow, sameRace, sameRecord, sameEntry, sameSent, sameAck, sameSide, sameWorld}
-use Rattle.delivery.specs.Statement.{changes, joinedAfter, firstStart}
+use Rattle.delivery.specs.Statement.{changes, joinedAfter, firstWorld}
 
 -- to unfold this is to unfold the definitions that a run computes with
 unfoldable pub computed : Unit {0}
@@ -54,16 +55,16 @@ nobody = record { limit = 0; spacing = 0; current = 0; windows = [] }
 abbrev pub wide : ℕ
 wide = 65535
 
--- a run's beginning: W windows, batch limit 2, and a set of silent windows
+abbrev pub term : ℕ → Term
+term n = record { 0 = n }
+
+-- a run's beginning: W windows, batch limit 2, first term 1, and a set of silent windows
 abbrev pub openedWithout : ℕ → List Entry → ℕ → World
-openedWithout silent j count = opened j (firstStart nobody j count 2 wide silent)
+openedWithout silent j count = firstWorld nobody j count 2 wide (term 1) silent
 
 -- no window is silent
 abbrev pub openedWith : List Entry → ℕ → World
 openedWith j count = openedWithout 0 j count
-
-abbrev pub term : ℕ → Term
-term n = record { 0 = n }
 
 abbrev pub room : List ℕ
 room = replicate 10 0
@@ -89,19 +90,66 @@ pub drop-before-ack : DropBeforeAck
 unfolding computed
 drop-before-ack = record { answers = refl; window0 = refl; acknowledged = refl }
 
--- the player starts anew in the middle of a batch: the second entry was on the line and is sent again, and taken once
+-- The player starts anew in the middle of a batch, of which window 0 has taken and acked the first entry: both ways of its line are empty.
+-- That ack comes with its old term and is turned away, and so are a Written and an Ack of the old term when the line is busy again and an
+-- ack is due. The second entry was on the line; it is sent again, and taken once.
 abbrev pub startSteps : List Step
 startSteps =
-    main 1 ∷ main 2 ∷ send 0 room ∷ take 0 false ∷ start 2 wide 0 ∷ take 0 false ∷ main 1 ∷ main 2 ∷ send 0 room ∷ take 0 false ∷ ack 0 ∷ []
+    main 1 ∷ main 2 ∷ send 0 room ∷ take 0 true ∷ start 2 wide (term 2) 0 ∷ late-ack 0 (term 1) 1 ∷ take 0 false
+    ∷ main 1 ∷ main 2 ∷ send 0 room ∷ written 0 (term 1) ∷ late-ack 0 (term 1) 2 ∷ written 0 (term 2) ∷ take 0 false ∷ ack 0 ∷ []
 
 pub record StartInBatch : Type 0 where
   pub answers : replies (openedWith afternoon 2) startSteps ≡
-      done ∷ done ∷ done ∷ done ∷ done ∷ empty ∷ done ∷ done ∷ done ∷ done ∷ done ∷ []
-  pub window0 : shownAt 0 (run (openedWith afternoon 2) startSteps) ≡ record { last = 2; count = 2 }
+      done ∷ done ∷ done ∷ done ∷ done ∷ answered 5 ∷ empty
+      ∷ done ∷ done ∷ done ∷ answered 5 ∷ answered 5 ∷ done ∷ done ∷ done ∷ []
+  pub window0 : sideAt 0 (run (openedWith afternoon 2) startSteps) .taken ≡ own afternoon 0
+  pub acknowledged : sideAt 0 (run (openedWith afternoon 2) startSteps) .view .acked ≡ 2
 
 pub start-in-batch : StartInBatch
 unfolding computed
-start-in-batch = record { answers = refl; window0 = refl }
+start-in-batch = record { answers = refl; window0 = refl; acknowledged = refl }
+
+-- The greatest term used: a Start whose first term is not above it is not made, and changes nothing. A Join raises it for all windows, and
+-- a Start sets it. Where it is the last term there is, no window joins and no Start is made.
+abbrev pub termSteps : List Step
+termSteps =
+    start 2 wide (term 1) 0 ∷ drop 0 ∷ join 0 ∷ start 2 wide (term 2) 0 ∷ start 2 wide (term 3) 0 ∷ start 2 wide (term 3) 0
+    ∷ start 2 wide (term 4294967295) 2 ∷ join 1 ∷ drop 0 ∷ join 0 ∷ start 2 wide (term 4294967295) 0 ∷ []
+
+pub record TermsUsed : Type 0 where
+  pub first : openedWith afternoon 2 .greatest ≡ 1
+  pub answers : replies (openedWith afternoon 2) termSteps ≡
+      unmade ∷ done ∷ done ∷ unmade ∷ done ∷ unmade ∷ done ∷ answered 14 ∷ done ∷ answered 14 ∷ unmade ∷ []
+  pub joined : run (openedWith afternoon 2) (drop 0 ∷ join 0 ∷ []) .greatest ≡ 2
+  pub last : run (openedWith afternoon 2) termSteps .greatest ≡ 4294967295
+
+pub terms-used : TermsUsed
+unfolding computed
+terms-used = record { first = refl; answers = refl; joined = refl; last = refl }
+
+-- What the premise is for, in a world that no run reaches: it has forgotten which terms were used. The player starts anew on term 1, which
+-- window 0 has had. When the first entry is on its line, a Written of the old life comes, and is taken for one of the new.
+abbrev pub forgetful : World → World
+forgetful wd = record {
+  journal = wd .journal;
+  limit = wd .limit;
+  spacing = wd .spacing;
+  current = wd .current;
+  sides = wd .sides;
+  greatest = 0;
+}
+
+abbrev pub usedSteps : List Step
+usedSteps = start 2 wide (term 1) 0 ∷ main 1 ∷ send 0 room ∷ written 0 (term 1) ∷ []
+
+pub record PremiseNeeded : Type 0 where
+  pub had : sideAt 0 (openedWith afternoon 2) .view .term ≡ term 1
+  pub answers : replies (forgetful (openedWith afternoon 2)) usedSteps ≡ done ∷ done ∷ done ∷ done ∷ []
+  pub freed : sideAt 0 (run (forgetful (openedWith afternoon 2)) usedSteps) .view .busy ≡ false
+
+pub premise-needed : PremiseNeeded
+unfolding computed
+premise-needed = record { had = refl; answers = refl; freed = refl }
 
 -- A window acks in the middle of a batch: its first entry is acknowledged, and the batch is not. The line drops with the second entry on it;
 -- the window joins from what it has taken, fetches the second entry anew and takes it, and all is acknowledged.
@@ -138,7 +186,7 @@ lateSteps =
     join 1 ∷ catch 1 (term 2) 1 ∷ catch 1 (term 2) 2 ∷ catch 1 (term 2) 3 ∷ send 1 room ∷ take 1 false ∷ take 1 false ∷ ack 1 ∷ []
 
 pub record SilentAtStart : Type 0 where
-  pub held : sideAt 1 window1Silent .view ≡ unheard 3
+  pub held : sideAt 1 window1Silent .view ≡ unheard (term 1) 3
   pub read : window1Silent .current ≡ 0
   pub answers : replies window1Silent stepsBefore ≡ done ∷ done ∷ done ∷ answered 3 ∷ empty ∷ done ∷ done ∷ done ∷ done ∷ []
   pub others : sideAt 0 (run window1Silent stepsBefore) .taken ≡ own afternoon 0
@@ -174,15 +222,15 @@ all-silent = record { read = refl; answers = refl; window1 = refl }
 -- The player starts anew in the middle of a batch, and the window that was taking it is silent: its line is empty, and it is not joined. It
 -- joins from what it has taken, is sent the second entry again, and takes it once.
 abbrev pub silentSteps : List Step
-silentSteps = main 1 ∷ main 2 ∷ send 0 room ∷ take 0 false ∷ start 2 wide 1 ∷ []
+silentSteps = main 1 ∷ main 2 ∷ send 0 room ∷ take 0 false ∷ start 2 wide (term 2) 1 ∷ []
 
 abbrev pub againSteps : List Step
 againSteps =
-    take 0 false ∷ main 1 ∷ main 2 ∷ main 3 ∷ join 0 ∷ catch 0 (term 2) 2 ∷ catch 0 (term 2) 3 ∷ send 0 room ∷ take 0 false ∷ ack 0 ∷ []
+    take 0 false ∷ main 1 ∷ main 2 ∷ main 3 ∷ join 0 ∷ catch 0 (term 3) 2 ∷ catch 0 (term 3) 3 ∷ send 0 room ∷ take 0 false ∷ ack 0 ∷ []
 
 pub record SilentInBatch : Type 0 where
   pub answers : replies (openedWith afternoon 2) silentSteps ≡ done ∷ done ∷ done ∷ done ∷ done ∷ []
-  pub held : sideAt 0 (run (openedWith afternoon 2) silentSteps) .view ≡ unheard 3
+  pub held : sideAt 0 (run (openedWith afternoon 2) silentSteps) .view ≡ unheard (term 2) 3
   pub apart : joinedAfter 0 true (openedWith afternoon 2) silentSteps ≡ false
   pub other : joinedAfter 1 true (openedWith afternoon 2) silentSteps ≡ true
   pub again : replies (run (openedWith afternoon 2) silentSteps) againSteps ≡

@@ -7,18 +7,19 @@ use mathlib.Core.List.{List, [], _∷_, _++_}
 use mathlib.Core.Bool.{Bool, true, false, not, cond}
 use native.Mathlib.Omega.{arith}
 use borrow.Author.Tests.{eq-eqb, ne-eqb}
-use lib.ListN.{length}
+use lib.ListN.{length, getD, set}
 use lib.Dec.{ltb}
 use Rattle.journal.specs.declared.Entry.{Entry}
 use Rattle.lists.specs.Cases.{le-or-lt}
 use Rattle.lists.specs.Set.{getD-set-each}
+use Rattle.rules.specs.declared.Term.{Term}
 use Rattle.rules.specs.View.{Condition, normal, fetching, completed, WindowView}
 use Rattle.rules.specs.Shape.{isEmpty}
 use Rattle.rules.specs.Window.{isSuspended, mainAt, fetched, batchOf, told, silence, startedBy}
 use Rattle.rules.specs.Rules.{windowAt, speaks}
 use Rattle.rules.specs.Offers.{ConditionAfter, batchOf-condition, oneIf, mainAt-either, fetched-more, fetched-last, launched-is, joinRule-can}
 use Rattle.rules.specs.Offers as B
-use Rattle.delivery.specs.World.{Side, World, noSide, sideAt, numbersIn, playerIn, withSide, takeFront, Step, main, catch, written, send, ack, late-ack, drop, join, start, append, Reply, answered, step, run}
+use Rattle.delivery.specs.World.{Side, World, noSide, sideAt, numbersIn, playerIn, takeFront, Step, main, catch, written, send, ack, late-ack, drop, join, start, append, Reply, answered, step, run}
 use Rattle.delivery.specs.World as W
 use Rattle.delivery.specs.Statement.{begins, joinedBy, joinedAfter}
 use Rattle.delivery.specs.Invariant.{Reached, lastOf}
@@ -38,7 +39,7 @@ step-count wd s r = by (step-facts wd (r .inShape) s)
     by (working quiet work) = work-count wd _ work
     by (dropping w is done h e sh) = ap (λ x. length (x .sides)) e ∙ withSide-count w _ wd
     by (joining w is done h away e sh) = ap (λ x. length (x .sides)) e ∙ withSide-count w _ wd
-    by (starting b spacing silent is done m) = m .count
+    by (starting b spacing first silent is done m) = m .count
     by (appending e is done h is′) = ap (λ x. length (x .sides)) is′
 
 pub run-count : (wd : World) (ss : List Step) → Reached wd → length (run wd ss .sides) ≡ length (wd .sides)
@@ -85,17 +86,20 @@ worked-away j limit w p p′ (E.took acks is x rest front replied e) = ap away e
 worked-away j limit w p p′ (E.acked is a rest front taken e) = ap away e
 
 -- a world of which one side is replaced, and what is to be the case at each window
-replaced-away : (wd wd′ : World) (v w : ℕ) (p′ : Side) → v < length (wd .sides) → wd′ ≡ withSide v p′ wd → (b : ℕ → Bool) → away p′ ≡ b v →
-    ((w ≡ v → ⊥) → away (sideAt w wd) ≡ b w) → away (sideAt w wd′) ≡ b w
-replaced-away wd wd′ v w p′ h e b this other =
-    ap (λ x. away (sideAt w x)) e ∙ getD-set-each (λ u p. away p ≡ b u) (wd .sides) v w p′ noSide h this other
+replaced-away : (wd wd′ x : World) (v w : ℕ) (p′ : Side) → v < length (wd .sides) → wd′ ≡ x → x .sides ≡ set (wd .sides) v p′ →
+    (b : ℕ → Bool) → away p′ ≡ b v → ((w ≡ v → ⊥) → away (sideAt w wd) ≡ b w) → away (sideAt w wd′) ≡ b w
+replaced-away wd wd′ x v w p′ h e sides b this other =
+    ap (λ x. away (sideAt w x)) e
+    ∙ ap (λ ps. away (getD ps w noSide)) sides
+    ∙ getD-set-each (λ u p. away p ≡ b u) (wd .sides) v w p′ noSide h this other
 
 work-away : {s : Step} {reply : Reply} (wd wd′ : World) (w : ℕ) → w < length (wd .sides) → Work s reply wd wd′ →
     away (sideAt w wd′) ≡ away (sideAt w wd)
 work-away wd wd′ w h (stays idle e) = ap (λ x. away (sideAt w x)) e
 work-away wd wd′ w h (mains i is done m) = ap away (m .each w h) ∙ main-away (wd .journal) w (wd .spacing) (suc (wd .current)) (sideAt w wd .view)
 work-away wd wd′ w h (works v k p′ work e s) =
-    replaced-away wd wd′ v w p′ k e (λ u. away (sideAt u wd)) (worked-away (wd .journal) (wd .limit) v (sideAt v wd) p′ work) (λ n. refl)
+    replaced-away wd wd′ _ v w p′ k e refl (λ u. away (sideAt u wd))
+    (worked-away (wd .journal) (wd .limit) v (sideAt v wd) p′ work) (λ n. refl)
 
 -- ------------------------------------------------------------------------
 -- joinedBy
@@ -110,7 +114,7 @@ joined-quiet w (ack v) r b e = refl
 joined-quiet w (late-ack v t i) r b e = refl
 joined-quiet w (drop v) r b e = rw e
 joined-quiet w (join v) r b e = rw e
-joined-quiet w (start l spacing silent) r b e = rw e
+joined-quiet w (start l spacing first silent) r b e = rw e
 joined-quiet w (append x) r b e = refl
 
 joined-condition : (t : Bool) (n c : ℕ) → isSuspended (cond t (fetching n c) normal) ≡ false
@@ -118,9 +122,9 @@ joined-condition true n c = refl
 joined-condition false n c = refl
 
 -- a window that speaks at a Start is joined by it, and a silent one is not
-pub startedBy-away : (b : Bool) (l r : ℕ) → isSuspended (startedBy l (cond b (told r) silence) .condition) ≡ not b
-startedBy-away true l r = refl
-startedBy-away false l r = refl
+pub startedBy-away : (b : Bool) (first : Term) (l r : ℕ) → isSuspended (startedBy first l (cond b (told r) silence) .condition) ≡ not b
+startedBy-away true first l r = refl
+startedBy-away false first l r = refl
 
 joined-step : (wd : World) (s : Step) (w : ℕ) (b : Bool) → Reached wd → w < length (wd .sides) → away (sideAt w wd) ≡ not b →
     away (sideAt w (step s wd .world)) ≡ not (joinedBy w s (step s wd .reply) b)
@@ -136,15 +140,15 @@ joined-step wd s w b r h is = by (step-facts wd (r .inShape) s)
     by : Facts s wd → away (sideAt w (step s wd .world)) ≡ not (joinedBy w s (step s wd .reply) b)
     by (working quiet work) = work-away wd _ w h work ∙ is ∙ ap not (sym (joined-quiet w s (step s wd .reply) b quiet))
     by (dropping v e done k is′ sh) =
-        replaced-away wd _ v w _ k is′ after
+        replaced-away wd _ _ v w _ k is′ refl after
         (rw (← step-is (drop v) e v, done, eq-eqb v v refl))
         (λ n. rw (← step-is (drop v) e w, done, ne-eqb v w (λ m. n (sym m))) is)
     by (joining v e done k away′ is′ sh) =
-        replaced-away wd _ v w _ k is′ after
+        replaced-away wd _ _ v w _ k is′ refl after
         (rw (← step-is (join v) e v, done, eq-eqb v v refl) (joined-condition (ltb (lastOf (sideAt v wd)) (wd .current)) _ (wd .current)))
         (λ n. rw (← step-is (join v) e w, done, ne-eqb v w (λ m. n (sym m))) is)
-    by (starting l spacing silent e done m) =
-        ap away (m .each w h) ∙ rw (← step-is (start l spacing silent) e w, done) (startedBy-away (speaks silent w) _ _)
+    by (starting l spacing first silent e done m) =
+        ap away (m .each w h) ∙ rw (← step-is (start l spacing first silent) e w, done) (startedBy-away (speaks silent w) first _ _)
     by (appending x e done k is′) = ap (λ y. away (sideAt w y)) is′ ∙ is ∙ ap not (step-is (append x) e w)
 
 pub joined-run : (wd : World) (ss : List Step) (w : ℕ) (b : Bool) → Reached wd → w < length (wd .sides) → away (sideAt w wd) ≡ not b →

@@ -80,8 +80,9 @@ begun {j} {c} {w} p v taken acked sent free none queues = record {
 }
 
 -- a window that is silent, with nothing on its line
-silenced : {j : List Entry} {c w : ℕ} (p : Side) → Taken j w (p .record′) (p .taken) → Inv j c w (cleared (withView (unheard (length j)) p))
-silenced {j} p taken = record {
+silenced : {j : List Entry} {c w : ℕ} (first : Term) (p : Side) → Taken j w (p .record′) (p .taken) →
+    Inv j c w (cleared (withView (unheard first (length j)) p))
+silenced {j} first p taken = record {
   taken = taken;
   flight = record { lastSent = taken .lastIn; sentIn = le-refl (length j); lineIs = nothing refl refl; lineTerms = tt };
   unacked = unacked-cleared (omega arith) (λ h. absurd (true≢false h)) refl;
@@ -90,15 +91,16 @@ silenced {j} p taken = record {
 }
 
 -- a window as Start leaves it: `current` is not above the report of one that speaks
-pub keep-start : {j : List Entry} {c w : ℕ} (silent : ℕ) (p : Side) → Taken j w (p .record′) (p .taken) →
-    (speaks silent w ≡ true → c ≤ lastOf p) → Inv j c w (cleared (withView (startedBy (length j) (saidBy silent w (lastOf p))) p))
-keep-start {j} {c} {w} silent p taken low = by (speaks silent w) low
+pub keep-start : {j : List Entry} {c w : ℕ} (first : Term) (silent : ℕ) (p : Side) → Taken j w (p .record′) (p .taken) →
+    (speaks silent w ≡ true → c ≤ lastOf p) → Inv j c w (cleared (withView (startedBy first (length j) (saidBy silent w (lastOf p))) p))
+keep-start {j} {c} {w} first silent p taken low = by (speaks silent w) low
   where
-    by : (b : Bool) → (b ≡ true → c ≤ lastOf p) → Inv j c w (cleared (withView (startedBy (length j) (cond b (told (lastOf p)) silence)) p))
+    by : (b : Bool) → (b ≡ true → c ≤ lastOf p) →
+        Inv j c w (cleared (withView (startedBy first (length j) (cond b (told (lastOf p)) silence)) p))
     by true h =
-        begun p (started (lastOf p)) taken refl refl refl refl
+        begun p (started first (lastOf p)) taken refl refl refl refl
         (record { ahead = omega arith; normalHas = holds-none (h refl); tickFirst = first-none })
-    by false h = silenced p taken
+    by false h = silenced first p taken
 
 pub keep-join : {j : List Entry} {c w : ℕ} {p : Side} → Inv j c w p → isSuspended (p .view .condition) ≡ true →
     Inv j c w (cleared (withView (joined c (lastOf p) (p .view)) p))

@@ -3,6 +3,7 @@ pub mod World
 pub mod Same
 pub mod Statement
 pub mod Counts
+pub mod Stragglers
 pub mod Examples
 pub mod Invariant
 pub mod TickExamples
@@ -25,6 +26,7 @@ pub mod Bound
 pub mod Joined
 pub mod Finish
 pub mod Demand3
+pub mod OldTerms
 pub mod Ticks
 pub mod ExactCounts
 pub mod CountExamples

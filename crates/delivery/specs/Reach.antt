@@ -12,9 +12,10 @@ use Rattle.journal.specs.declared.Entry.{Entry}
 use Rattle.lists.specs.Cases.{and-left, and-right}
 use Rattle.lists.specs.Set.{getD-set-each}
 use Rattle.journal.specs.Entry.{numbersOf, countOf}
+use Rattle.rules.specs.declared.Term.{Term}
 use Rattle.rules.specs.Shape.{shape}
 use Rattle.rules.specs.Offers.{shaped, append-shaped}
-use Rattle.delivery.specs.World.{Side, World, noSide, sideAt, numbersIn, playerIn, withJournal, withSide, Step, drop, join, start, append, Reply, step, run}
+use Rattle.delivery.specs.World.{Side, World, noSide, sideAt, numbersIn, playerIn, withJournal, withSide, raised, Step, drop, join, start, append, Reply, step, run}
 use Rattle.delivery.specs.Statement.{begins}
 use Rattle.delivery.specs.Invariant.{Inv, Reached}
 use Rattle.delivery.specs.KeepMain.{keep-main}
@@ -68,6 +69,10 @@ replaced wd wd′ w p′ r h e s inv =
           (λ n. r .each v (omega (arith, withSide-count w p′ wd)));
     })
 
+-- another greatest term
+reached-raised : (t : Term) (wd : World) → Reached wd → Reached (raised t wd)
+reached-raised t wd r = record { inShape = r .inShape; each = r .each }
+
 -- ------------------------------------------------------------------------
 -- each kind of step
 
@@ -82,12 +87,12 @@ reached-work wd wd′ r (mains i is done m) = record {
 reached-work wd wd′ r (works w h p′ work e s) =
     replaced wd wd′ w p′ r h e s (keep-worked (read-in wd r) (few-in wd r) (r .each w h) work)
 
-reached-restart : (silent : ℕ) (wd wd′ : World) → Reached wd → Restarted silent wd wd′ → Reached wd′
-reached-restart silent wd wd′ r m = record {
+reached-restart : (first : Term) (silent : ℕ) (wd wd′ : World) → Reached wd → Restarted first silent wd wd′ → Reached wd′
+reached-restart first silent wd wd′ r m = record {
   inShape = m .shaped;
   each = λ w h.
       let h′ : w < length (wd .sides) = omega (arith, m .count) in
-      rw (m .journal, m .each w h′) (keep-start silent (sideAt w wd) (r .each w h′ .taken) (m .least w h′));
+      rw (m .journal, m .each w h′) (keep-start first silent (sideAt w wd) (r .each w h′ .taken) (m .least w h′));
 }
 
 pub numbersOf-append : (j : List Entry) (e : Entry) → numbersOf (j ++ (e ∷ [])) ≡ numbersOf j ++ numbersOf (e ∷ [])
@@ -112,8 +117,11 @@ reached-step wd s r = by (step-facts wd (r .inShape) s)
     by : Facts s wd → Reached (step s wd .world)
     by (working quiet work) = reached-work wd _ r work
     by (dropping w is done h e sh) = replaced wd _ w _ r h e sh (keep-drop (r .each w h))
-    by (joining w is done h away e sh) = replaced wd _ w _ r h e sh (keep-join (r .each w h) away)
-    by (starting b spacing silent is done m) = reached-restart silent wd _ r m
+    by (joining w is done h away e sh) =
+        subst⁻¹ Reached e
+        (reached-raised _ _
+        (replaced wd _ w _ r h refl (subst (λ x. shape (numbersIn x) (playerIn x) ≡ true) e sh) (keep-join (r .each w h) away)))
+    by (starting b spacing first silent is done m) = reached-restart first silent wd _ r m
     by (appending e is done h same) = reached-append wd _ e r h same
 
 -- a step is a fault or an append, or else it does some work or nothing
@@ -129,7 +137,7 @@ begun-or-working wd s r = by (step-facts wd (r .inShape) s)
     by (working quiet work) = inr (quiet, work)
     by (dropping w is done h e sh) = inl (begun (drop w) is done)
     by (joining w is done h away e sh) = inl (begun (join w) is done)
-    by (starting b spacing silent is done m) = inl (begun (start b spacing silent) is done)
+    by (starting b spacing first silent is done m) = inl (begun (start b spacing first silent) is done)
     by (appending e is done h same) = inl (begun (append e) is done)
 
 pub reached-run : (wd : World) (ss : List Step) → Reached wd → Reached (run wd ss)

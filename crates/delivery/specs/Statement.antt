@@ -11,6 +11,7 @@ use Rattle.journal.specs.Own.{own, isOwn, ownOf}
 use Rattle.lists.specs.All.{all}
 use Rattle.lists.specs.Elem.{lastOr}
 use Rattle.record.specs.Record.{newRecord, takeAll}
+use Rattle.rules.specs.declared.Term.{Term}
 use Rattle.rules.specs.View.{PlayerView}
 use Rattle.rules.specs.Window.{Report}
 use Rattle.rules.specs.Rules.{Outcome, speaks, said, startRule}
@@ -35,7 +36,7 @@ begins (ack w) r = false
 begins (late-ack w t i) r = false
 begins (drop w) r = isDone r
 begins (join w) r = isDone r
-begins (start b e silent) r = isDone r
+begins (start b e first silent) r = isDone r
 begins (append e) r = isDone r
 
 -- The number of steps since the last fault or append that changed something: the player's state, a record or a line differs after it.
@@ -57,7 +58,7 @@ joinedBy w (ack v) r b = b
 joinedBy w (late-ack v t i) r b = b
 joinedBy w (drop v) r b = cond (isDone r) (cond (eqb v w) false b) b
 joinedBy w (join v) r b = cond (isDone r) (cond (eqb v w) true b) b
-joinedBy w (start l e silent) r b = cond (isDone r) (speaks silent w) b
+joinedBy w (start l e first silent) r b = cond (isDone r) (speaks silent w) b
 joinedBy w (append e) r b = b
 
 -- whether window w is joined after the list, where it was or was not before
@@ -76,7 +77,7 @@ isWork (ack w) = true
 isWork (late-ack w t i) = true
 isWork (drop w) = false
 isWork (join w) = false
-isWork (start b e silent) = false
+isWork (start b e first silent) = false
 isWork (append e) = false
 
 -- "None can": no Main, Catch, Send, Written, Take or Ack that the list might go on with would change anything
@@ -115,14 +116,18 @@ pub record Delivers (count silent : ℕ) (wd : World) (steps : List Step) : Type
 abbrev pub newReports : ℕ → ℕ → List Report
 newReports silent count = said silent (replicate count 0)
 
--- The first Start: W new windows, a batch limit and a spacing; whatever the player held before.
-abbrev pub firstStart : PlayerView → List Entry → (count limit spacing silent : ℕ) → Outcome
-firstStart before j count limit spacing silent = startRule (numbersOf j) count limit spacing (newReports silent count) before
+-- The first Start: W new windows, a batch limit, a spacing and a first term; whatever the player held before.
+abbrev pub firstStart : PlayerView → List Entry → (count limit spacing : ℕ) → Term → (silent : ℕ) → Outcome
+firstStart before j count limit spacing first silent = startRule (numbersOf j) count limit spacing first (newReports silent count) before
 
--- Demand 3. The list starts from new windows, empty lines, any journal and a Start answered 0. W, the batch limit, the spacing, the silent
--- windows, the journal and the list are any that this Start takes.
+-- the world after it
+abbrev pub firstWorld : PlayerView → List Entry → (count limit spacing : ℕ) → Term → (silent : ℕ) → World
+firstWorld before j count limit spacing first silent = opened j first (firstStart before j count limit spacing first silent)
+
+-- Demand 3. The list starts from new windows, empty lines, any journal and a Start answered 0. W, the batch limit, the spacing, the first
+-- term, the silent windows, the journal and the list are any that this Start takes.
 abbrev pub Demand3 : Type 0
 Demand3 =
-    (before : PlayerView) (j : List Entry) (count limit spacing silent : ℕ) (steps : List Step) →
-    firstStart before j count limit spacing silent .answer ≡ 0 →
-    Delivers count silent (opened j (firstStart before j count limit spacing silent)) steps
+    (before : PlayerView) (j : List Entry) (count limit spacing : ℕ) (first : Term) (silent : ℕ) (steps : List Step) →
+    firstStart before j count limit spacing first silent .answer ≡ 0 →
+    Delivers count silent (firstWorld before j count limit spacing first silent) steps

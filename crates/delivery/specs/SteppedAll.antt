@@ -1,22 +1,24 @@
 -- The steps that reach every window: Main, Start and an append; and all steps together.
 use Prim.Native.Nat.{ℕ, suc, _≤_, _<_}
-use mathlib.Core.Path.{_≡_, refl, ap, ap₂, subst⁻¹, _∙_}
+use mathlib.Core.Path.{_≡_, refl, sym, ap, ap₂, subst⁻¹, _∙_}
 use mathlib.Core.Logic.{⊎-elim}
 use mathlib.Core.List.{List, [], _∷_, map}
-use mathlib.Core.Bool.{true}
+use mathlib.Core.Bool.{true, false, false≢true}
 use native.Mathlib.Omega.{arith}
 use native.Mathlib.Numerals.{add-one}
-use borrow.Author.Tests.{eq-eqb, ne-eqb, lt-ltb, le-ltb}
+use borrow.Author.Tests.{eqb-true, eq-eqb, ne-eqb, ltb-true, lt-ltb, le-ltb}
 use lib.ListN.{length, getD, length-map, List·getD-map}
 use Rattle.journal.specs.declared.Entry.{Entry}
 use Rattle.journal.specs.Entry.{countOf}
-use Rattle.lists.specs.Cases.{le-or-lt}
+use Rattle.lists.specs.Cases.{le-or-lt, true-or-false}
+use Rattle.rules.specs.declared.Term.{Term}
 use Rattle.rules.specs.Shape.{shape}
 use Rattle.rules.specs.Window.{mainAt, Report, silence, startedBy}
 use Rattle.rules.specs.Rules.{Outcome, windowAt, mainRule, saidBy, said, startRule}
 use Rattle.rules.specs.Offers.{mainRule-done, mainRule-refuses, mainNext-at, mainRule-count, startRule-done, startRule-refuses, startNext-at, said-at, least-le, main-shaped, start-shaped}
-use Rattle.delivery.specs.World.{Side, World, noSide, sideAt, numbersIn, playerIn, withView, withViews, withPlayer, Step, main, catch, written, send, ack, late-ack, drop, join, start, append, unmade, cleared, clearedAll, reportsIn, step}
+use Rattle.delivery.specs.World.{Side, World, noSide, sideAt, numbersIn, playerIn, withView, withViews, withPlayer, Step, main, catch, written, send, ack, late-ack, drop, join, start, append, unmade, calledThen, cleared, restarted, isNew, reportsIn, step}
 use Rattle.delivery.specs.World as W
+use Rattle.delivery.specs.Statement.{isDone}
 use Rattle.delivery.specs.Invariant.{lastOf}
 use Rattle.delivery.specs.Worlds.{entries-in, count-in, window-in, windows-in, withWindows, withViews-length, withViews-at, withPlayer-player}
 use Rattle.delivery.specs.Effects.{Mained, mains, Restarted, Facts, working, starting, appending}
@@ -39,6 +41,7 @@ module _ (wd : World) (shaped : shape (numbersIn wd) (playerIn wd) ≡ true) whe
         journal = refl;
         current = ap (λ q. q .current) (d .next) ∙ i≡;
         count = withViews-length (o .next .windows) (wd .sides) n;
+        greatest = refl;
         each = λ w h.
             withViews-at (o .next .windows) (wd .sides) w n h
             ∙ ap (λ v. withView v (sideAt w wd))
@@ -70,46 +73,72 @@ module _ (wd : World) (shaped : shape (numbersIn wd) (playerIn wd) ≡ true) whe
   said-in silent w h =
       said-at silent (reportsIn wd) w (omega (arith, length-map (wd .sides) lastOf)) ∙ ap (saidBy silent w) (report-in w)
 
-  restarted : (b spacing silent : ℕ) →
-      startRule (numbersIn wd) (length (wd .sides)) b spacing (said silent (reportsIn wd)) (playerIn wd) .answer ≡ 0 →
-      Restarted silent wd (step (start b spacing silent) wd .world)
-  unfolding step withPlayer
-  restarted b spacing silent e =
-      let rs : List Report = said silent (reportsIn wd) in
-      let l : ℕ = countOf (numbersIn wd) in
-      let o : Outcome = startRule (numbersIn wd) (length (wd .sides)) b spacing rs (playerIn wd) in
-      let d = startRule-done (numbersIn wd) (length (wd .sides)) b spacing rs (playerIn wd) e in
-      let is : step (start b spacing silent) wd .world ≡ clearedAll (withPlayer (o .next) wd) = calledThen-done o clearedAll wd e in
-      let n : length (o .next .windows) ≡ length (wd .sides) = d .windows in
-      subst⁻¹ (Restarted silent wd) is
-      (record {
-        journal = refl;
-        count = length-map (withViews (o .next .windows) (wd .sides)) cleared ∙ withViews-length (o .next .windows) (wd .sides) n;
-        least = λ w h speaking.
-            subst⁻¹ (λ c. c ≤ lastOf (sideAt w wd)) (ap (λ q. q .current) (d .next))
-            (least-le l rs w (lastOf (sideAt w wd)) (said-in silent w h ∙ rw speaking));
-        each = λ w h.
-            List·getD-map cleared (withViews (o .next .windows) (wd .sides)) w noSide
-            ∙ ap cleared
-            (withViews-at (o .next .windows) (wd .sides) w n h
-            ∙ ap (λ v. withView v (sideAt w wd))
-            (ap (windowAt w) (d .next)
-            ∙ startNext-at l b spacing rs w (omega (arith, d .given .each))
-            ∙ ap₂ startedBy (count-in wd) (said-in silent w h)));
-        shaped =
-            ap (λ vs. shape (numbersIn wd) (withWindows (o .next) vs))
-            (views-cleared (withViews (o .next .windows) (wd .sides)))
-            ∙ ap (shape (numbersIn wd)) (withPlayer-player wd (o .next) n)
-            ∙ start-shaped (numbersIn wd) (length (wd .sides)) b spacing rs (playerIn wd) e;
-      })
+  module _ (b spacing : ℕ) (first : Term) (silent : ℕ) where
+    abbrev told-in : List Report
+    told-in = said silent (reportsIn wd)
 
-  facts-start : (b spacing silent : ℕ) → Facts (start b spacing silent) wd
-  unfolding step
-  facts-start b spacing silent =
-      let rs : List Report = said silent (reportsIn wd) in
-      call-either wd (start b spacing silent) (startRule (numbersIn wd) (length (wd .sides)) b spacing rs (playerIn wd)) clearedAll refl
-      (ne-eqb _ 0) (startRule-refuses (numbersIn wd) (length (wd .sides)) b spacing rs (playerIn wd))
-      (λ e. starting b spacing silent refl (eq-eqb _ 0 e) (restarted b spacing silent e))
+    abbrev starts : Outcome
+    starts = startRule (numbersIn wd) (length (wd .sides)) b spacing first told-in (playerIn wd)
+
+    -- a Start that is made
+    start-made : isNew first wd ≡ true → step (start b spacing first silent) wd ≡ calledThen starts (restarted first) wd
+    unfolding step
+    start-made new = rw new
+
+    start-done : isNew first wd ≡ true → starts .answer ≡ 0 → Restarted first silent wd (step (start b spacing first silent) wd .world)
+    unfolding withPlayer
+    start-done new e =
+        let l : ℕ = countOf (numbersIn wd) in
+        let o : Outcome = starts in
+        let d = startRule-done (numbersIn wd) (length (wd .sides)) b spacing first told-in (playerIn wd) e in
+        let is : step (start b spacing first silent) wd .world ≡ restarted first (withPlayer (o .next) wd)
+        = ap (λ r. r .world) (start-made new) ∙ calledThen-done o (restarted first) wd e in
+        let n : length (o .next .windows) ≡ length (wd .sides) = d .windows in
+        subst⁻¹ (Restarted first silent wd) is
+        (record {
+          above = ltb-true (wd .greatest) (first .0) new;
+          greatest = refl;
+          journal = refl;
+          count = length-map (withViews (o .next .windows) (wd .sides)) cleared ∙ withViews-length (o .next .windows) (wd .sides) n;
+          least = λ w h speaking.
+              subst⁻¹ (λ c. c ≤ lastOf (sideAt w wd)) (ap (λ q. q .current) (d .next))
+              (least-le l told-in w (lastOf (sideAt w wd)) (said-in silent w h ∙ rw speaking));
+          each = λ w h.
+              List·getD-map cleared (withViews (o .next .windows) (wd .sides)) w noSide
+              ∙ ap cleared
+              (withViews-at (o .next .windows) (wd .sides) w n h
+              ∙ ap (λ v. withView v (sideAt w wd))
+              (ap (windowAt w) (d .next)
+              ∙ startNext-at l b spacing first told-in w (omega (arith, d .given .each))
+              ∙ ap₂ (startedBy first) (count-in wd) (said-in silent w h)));
+          shaped =
+              ap (λ vs. shape (numbersIn wd) (withWindows (o .next) vs))
+              (views-cleared (withViews (o .next .windows) (wd .sides)))
+              ∙ ap (shape (numbersIn wd)) (withPlayer-player wd (o .next) n)
+              ∙ start-shaped (numbersIn wd) (length (wd .sides)) b spacing first told-in (playerIn wd) e;
+        })
+
+    -- one that is answered 0 is made
+    pub start-restarts : isDone (step (start b spacing first silent) wd .reply) ≡ true →
+        Restarted first silent wd (step (start b spacing first silent) wd .world)
+    unfolding step
+    start-restarts done =
+        ⊎-elim
+        (λ (new : isNew first wd ≡ true).
+        start-done new (eqb-true (starts .answer) 0 (ap (λ r. isDone (r .reply)) (sym (start-made new)) ∙ done)))
+        (λ (used : isNew first wd ≡ false). absurd (false≢true (rw used at done)))
+        (true-or-false (isNew first wd))
+
+    facts-start : Facts (start b spacing first silent) wd
+    unfolding step
+    facts-start =
+        ⊎-elim
+        (λ (new : isNew first wd ≡ true).
+        call-either wd (start b spacing first silent) starts (restarted first) (start-made new) (ne-eqb _ 0)
+        (startRule-refuses (numbersIn wd) (length (wd .sides)) b spacing first told-in (playerIn wd))
+        (λ e. starting b spacing first silent refl (ap (λ r. isDone (r .reply)) (start-made new) ∙ eq-eqb _ 0 e) (start-done new e)))
+        (λ (used : isNew first wd ≡ false). idle-facts wd (start b spacing first silent) unmade refl refl (rw used))
+        (true-or-false (isNew first wd))
 
   -- ------------------------------------------------------------------------
   -- An append
@@ -137,5 +166,5 @@ module _ (wd : World) (shaped : shape (numbersIn wd) (playerIn wd) ≡ true) whe
   step-facts (late-ack w t i) = facts-late wd shaped w t i
   step-facts (drop w) = facts-drop wd shaped w
   step-facts (join w) = facts-join wd shaped w
-  step-facts (start b spacing silent) = facts-start b spacing silent
+  step-facts (start b spacing first silent) = facts-start b spacing first silent
   step-facts (append e) = facts-append e

@@ -1,45 +1,50 @@
 -- The steps that reach a line: Join, Send, Ack and Take.
 use Prim.Native.Nat.{ℕ, _≤_, _<_}
-use mathlib.Core.Path.{_≡_, refl, sym, ap}
+use mathlib.Core.Path.{_≡_, refl, sym, ap, subst⁻¹, _∙_}
 use mathlib.Core.Logic.{⊎-elim}
 use mathlib.Core.List.{List, [], _∷_, _++_}
 use mathlib.Core.Bool.{Bool, true}
 use borrow.Author.Tests.{eq-eqb, ne-eqb, lt-ltb, le-ltb}
 use lib.ListN.{length}
 use Rattle.lists.specs.Cases.{le-or-lt}
+use Rattle.rules.specs.View.{WindowView}
 use Rattle.rules.specs.Shape.{shape}
-use Rattle.rules.specs.Window.{batchOf}
+use Rattle.rules.specs.Window.{batchOf, joined}
 use Rattle.rules.specs.Rules.{ackRule, joinRule, sendRule}
 use Rattle.rules.specs.Offers.{sendEffect, sendRule-lawful, ackEffect, ackRule-lawful, joinEffect, joinRule-lawful}
-use Rattle.delivery.specs.World.{Sent, Ack, Side, World, sideAt, numbersIn, playerIn, withLines, withSide, onLine, takeFront, send, ack, join, answered, empty, launch, takeAtLine, ackAtLine, cleared, step}
+use Rattle.delivery.specs.World.{Sent, Ack, Side, World, sideAt, numbersIn, playerIn, withView, withLines, withSide, raised, onLine, takeFront, send, ack, join, answered, empty, launch, takeAtLine, ackAtLine, cleared, rejoined, step}
 use Rattle.delivery.specs.World as W
 use Rattle.delivery.specs.Invariant.{lastOf}
-use Rattle.delivery.specs.Worlds.{window-in, withWindow-same}
+use Rattle.delivery.specs.Worlds.{window-in, withSide-here, withSide-twice, withWindow-same}
 use Rattle.delivery.specs.Effects.{WorksAt, Facts, joining}
 use Rattle.delivery.specs.Effects as E
-use Rattle.delivery.specs.Stepped.{idle-facts, CallAt, call-done, call-works, call-facts, shape-after, works-facts}
+use Rattle.delivery.specs.Stepped.{idle-facts, CallOf, CallAt, call-turn, call-works, call-facts, shape-after, works-facts}
 
 module _ (wd : World) (shaped : shape (numbersIn wd) (playerIn wd) ≡ true) where
   -- ------------------------------------------------------------------------
   -- Join
 
   join-call : (w : ℕ) →
-      CallAt (join w) wd w (joinRule (numbersIn wd) w (lastOf (sideAt w wd)) (playerIn wd)) (joinEffect (wd .current) (lastOf (sideAt w wd))) cleared
+      CallOf (join w) wd w (joinRule (numbersIn wd) w (lastOf (sideAt w wd)) (playerIn wd))
+      (joinEffect (wd .current) (lastOf (sideAt w wd))) (rejoined w)
   unfolding step
-  join-call w =
-      record {
-        lawful = joinRule-lawful (numbersIn wd) w (lastOf (sideAt w wd)) (playerIn wd);
-        change = λ x. withSide w (cleared (sideAt w x)) x;
-        calls = refl;
-        here = λ x. refl;
-        views = λ p. refl;
-      }
+  join-call w = record { lawful = joinRule-lawful (numbersIn wd) w (lastOf (sideAt w wd)) (playerIn wd); calls = refl }
 
   pub facts-join : (w : ℕ) → Facts (join w) wd
   unfolding step
   facts-join w =
       call-facts (join-call w) (ne-eqb _ 0)
-      (λ e. let d = call-done (join-call w) shaped e in joining w refl (eq-eqb _ 0 e) (d .within) (d .turn .away) (d .world) (d .shaped))
+      (λ e.
+      let d = call-turn (join-call w) e in
+      let v : WindowView = joined (wd .current) (lastOf (sideAt w wd)) (sideAt w wd .view) in
+      let p : Side = withView v (sideAt w wd) in
+      let is : step (join w) wd .world ≡ raised (v .term) (withSide w (cleared p) wd)
+      = d .world
+      ∙ ap (λ q. raised (q .view .term) (withSide w (cleared q) (withSide w p wd))) (withSide-here w p wd (d .within))
+      ∙ ap (raised (v .term)) (withSide-twice w p (cleared p) wd) in
+      joining w refl (eq-eqb _ 0 e) (d .within) (d .turn .away) is
+      (subst⁻¹ (λ x. shape (numbersIn x) (playerIn x) ≡ true) is
+      (shape-after wd w _ v (cleared p) (withSide w (cleared p) wd) (d .next) (join-call w .lawful .shaped shaped) refl refl)))
 
   -- ------------------------------------------------------------------------
   -- Send
@@ -53,9 +58,8 @@ module _ (wd : World) (shaped : shape (numbersIn wd) (playerIn wd) ≡ true) whe
   unfolding step batchPut
   send-call w out =
       record {
-        lawful = sendRule-lawful (numbersIn wd) w (length out) (playerIn wd);
         change = launch w wd;
-        calls = refl;
+        call = record { lawful = sendRule-lawful (numbersIn wd) w (length out) (playerIn wd); calls = refl };
         here = λ x.
             let p : Side = sideAt w x in
             ap (λ v. withSide w (withLines (p .line ++ onLine (wd .journal) w (sideAt w wd .view .term) (batchOf (wd .limit) v .indices)) (p .back) p) x)
@@ -68,7 +72,7 @@ module _ (wd : World) (shaped : shape (numbersIn wd) (playerIn wd) ≡ true) whe
   send-works w out e = call-works (send-call w out) shaped e (λ c. E.sent out refl c refl)
 
   pub facts-send : (w : ℕ) (out : List ℕ) → Facts (send w out) wd
-  facts-send w out = call-facts (send-call w out) (λ n. refl) (λ e. works-facts wd w (send w out) refl (send-works w out e))
+  facts-send w out = call-facts (send-call w out .call) (λ n. refl) (λ e. works-facts wd w (send w out) refl (send-works w out e))
 
   -- ------------------------------------------------------------------------
   -- Ack
@@ -82,9 +86,11 @@ module _ (wd : World) (shaped : shape (numbersIn wd) (playerIn wd) ≡ true) whe
       (λ p. withLines (p .line) rest p)
   ack-call w a rest h front =
       record {
-        lawful = ackRule-lawful (numbersIn wd) w (a .term) (a .index) (playerIn wd);
         change = λ x. withSide w (withLines (sideAt w x .line) rest (sideAt w x)) x;
-        calls = ack-line w (a ∷ rest) h front;
+        call = record {
+          lawful = ackRule-lawful (numbersIn wd) w (a .term) (a .index) (playerIn wd);
+          calls = ack-line w (a ∷ rest) h front;
+        };
         here = λ x. refl;
         views = λ p. refl;
       }
@@ -96,7 +102,7 @@ module _ (wd : World) (shaped : shape (numbersIn wd) (playerIn wd) ≡ true) whe
   ack-front : (w : ℕ) (b : List Ack) → w < length (wd .sides) → sideAt w wd .back ≡ b → Facts (ack w) wd
   ack-front w [] h front = idle-facts wd (ack w) empty refl refl (ack-line w [] h front)
   ack-front w (a ∷ rest) h front =
-      call-facts (ack-call w a rest h front) (λ n. refl) (λ e. works-facts wd w (ack w) refl (ack-works w a rest h front e))
+      call-facts (ack-call w a rest h front .call) (λ n. refl) (λ e. works-facts wd w (ack w) refl (ack-works w a rest h front e))
 
   pub facts-ack : (w : ℕ) → Facts (ack w) wd
   unfolding step

@@ -11,8 +11,8 @@ use Rattle.lists.specs.Keep.{keep}
 use Rattle.record.specs.Record.{emptyRace, newRecord, takeAll}
 use Rattle.rules.specs.View.{WindowView, normal}
 use Rattle.rules.specs.Rules.{tick}
-use Rattle.delivery.specs.World.{Side, World, sideAt, Step, main, send, written, take, ack, drop, join, start, replies, answered, empty, run, opened}
-use Rattle.delivery.specs.Statement.{Leading, firstStart}
+use Rattle.delivery.specs.World.{Side, World, sideAt, Step, main, send, written, take, ack, drop, join, start, replies, answered, empty, run}
+use Rattle.delivery.specs.Statement.{Leading, firstWorld}
 use Rattle.delivery.specs.Examples.{computed, done, nobody, wide, shownAt, term, room}
 use Rattle.delivery.specs.Invariant.{lineEntries}
 
@@ -21,9 +21,9 @@ leading : Unit {0}
 unfolding keep takeAll
 leading = tt
 
--- a beginning: two windows of which none is silent, batch limit 2, and a spacing
+-- a beginning: two windows of which none is silent, batch limit 2, first term 1, and a spacing
 abbrev pub openedEvery : ℕ → List Entry → World
-openedEvery spacing j = opened j (firstStart nobody j 2 2 spacing 0)
+openedEvery spacing j = firstWorld nobody j 2 2 spacing (term 1) 0
 
 -- a Normal window with a term, for which nothing is queued; all that was sent, up to an index, is acknowledged
 abbrev pub idleAt : (term index : ℕ) → WindowView
@@ -62,14 +62,14 @@ busySteps = windowsServed 1 2 ++ (windowsServed 3 4 ++ (main 5 ∷ send 1 room �
 
 -- after a Start that begins at 4: the fifth entry, which window 1 has taken, the sixth, and what is then ready for each
 abbrev pub onwardSteps : List Step
-onwardSteps = main 5 ∷ main 6 ∷ send 1 room ∷ written 1 (term 1) ∷ take 1 false ∷ ack 1 ∷ send 0 room ∷ take 0 false ∷ []
+onwardSteps = main 5 ∷ main 6 ∷ send 1 room ∷ written 1 (term 2) ∷ take 1 false ∷ ack 1 ∷ send 0 room ∷ take 0 false ∷ []
 
 -- the world after busySteps, with a spacing; and after a Start
 abbrev pub served : ℕ → World
 served spacing = run (openedEvery spacing busy) busySteps
 
 abbrev pub anew : ℕ → World
-anew spacing = run (served spacing) (start 2 spacing 0 ∷ [])
+anew spacing = run (served spacing) (start 2 spacing (term 2) 0 ∷ [])
 
 -- window 0 then, with spacing 2: it has taken two ticks
 abbrev pub quietSide : Side

@@ -14,13 +14,14 @@ use Rattle.lists.specs.All.{all}
 use Rattle.lists.specs.Elem.{lastOr}
 use Rattle.lists.specs.Rising.{Rising, rising-none, rising-weaken, rising-append}
 use Rattle.lists.specs.Keep.{keep, keep-append}
+use Rattle.rules.specs.declared.Term.{Term}
 use Rattle.rules.specs.View.{Condition, normal, fetching, completed, suspended, WindowView, PlayerView}
 use Rattle.rules.specs.Shape.{catchUpFits}
 use Rattle.rules.specs.Window.{isSuspended, readAt, getsTick}
 use Rattle.rules.specs.Rules.{sentFor}
 use Rattle.rules.specs.Offers.{isEmpty-nil, shaped, Ticked, ticked, ticked-same, sentFor-isOwn, sentFor-index}
-use Rattle.delivery.specs.World.{Sent, Side, World, sideAt, numbersIn, playerIn, Step, run, opened}
-use Rattle.delivery.specs.Statement.{firstStart}
+use Rattle.delivery.specs.World.{Sent, Side, World, sideAt, numbersIn, playerIn, Step, run}
+use Rattle.delivery.specs.Statement.{firstStart, firstWorld}
 use Rattle.delivery.specs.Invariant.{lineEntries, Whole, LineHas, whole, nothing, QueuesOf, Inv, Reached, lastOf}
 use Rattle.delivery.specs.Lines.{line-here}
 use Rattle.delivery.specs.Queued.{holds-append, first-append}
@@ -163,11 +164,11 @@ tick-laws-in w wd r h =
     }
 
 -- A result to be read: these hold at every window, for whatever demand 3 speaks of
-pub tick-laws : (before : PlayerView) (j : List Entry) (count limit spacing silent : ℕ) (steps : List Step) →
-    firstStart before j count limit spacing silent .answer ≡ 0 →
-    (w : ℕ) → w < count → TickLaws w (run (opened j (firstStart before j count limit spacing silent)) steps)
-tick-laws before j count limit spacing silent steps done w h =
-    let wd : World = opened j (firstStart before j count limit spacing silent) in
-    let reached : Reached wd = opened-reached before j count limit spacing silent done in
+pub tick-laws : (before : PlayerView) (j : List Entry) (count limit spacing : ℕ) (first : Term) (silent : ℕ) (steps : List Step) →
+    firstStart before j count limit spacing first silent .answer ≡ 0 →
+    (w : ℕ) → w < count → TickLaws w (run (firstWorld before j count limit spacing first silent) steps)
+tick-laws before j count limit spacing first silent steps done w h =
+    let wd : World = firstWorld before j count limit spacing first silent in
+    let reached : Reached wd = opened-reached before j count limit spacing first silent done in
     tick-laws-in w (run wd steps) (reached-run wd steps reached)
-    (omega (arith, run-count wd steps reached, opened-count before j count limit spacing silent done))
+    (omega (arith, run-count wd steps reached, opened-count before j count limit spacing first silent done))

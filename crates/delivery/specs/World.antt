@@ -1,6 +1,6 @@
--- Document 01, "Whole runs", with document 02's acks (W1), silent windows (W3) and ticks (W5): a world of journal, player, windows and
--- lines, and what each step makes of it.
-use Prim.Native.Nat.{ℕ}
+-- Document 01, "Whole runs", with document 02's acks (W1), silent windows (W3), ticks (W5) and first term (W7): a world of journal,
+-- player, windows and lines, and what each step makes of it.
+use Prim.Native.Nat.{ℕ, max}
 use mathlib.Core.List.{List, [], _∷_, _++_, map}
 use mathlib.Core.Bool.{Bool, true, false, cond, _||_}
 use lib.ListN.{length, getD, set}
@@ -33,12 +33,14 @@ pub record Side : Type 0 where
   pub back : List Ack
   pub taken : List Placed
 
+-- `greatest` is the greatest term used so far: that any window has held, in any life of the player
 pub record World : Type 0 where
   pub journal : List Entry
   pub limit : ℕ
   pub spacing : ℕ
   pub current : ℕ
   pub sides : List Side
+  pub greatest : ℕ
 
 abbrev pub noSide : Side
 noSide = record { view = noWindow; record′ = newRecord; line = []; back = []; taken = [] }
@@ -75,16 +77,42 @@ withPlayer p wd = record {
   spacing = p .spacing;
   current = p .current;
   sides = withViews (p .windows) (wd .sides);
+  greatest = wd .greatest;
 }
 
 abbrev pub withSides : List Side → World → World
-withSides ps wd = record { journal = wd .journal; limit = wd .limit; spacing = wd .spacing; current = wd .current; sides = ps }
+withSides ps wd = record {
+  journal = wd .journal;
+  limit = wd .limit;
+  spacing = wd .spacing;
+  current = wd .current;
+  sides = ps;
+  greatest = wd .greatest;
+}
 
 abbrev pub withJournal : List Entry → World → World
-withJournal j wd = record { journal = j; limit = wd .limit; spacing = wd .spacing; current = wd .current; sides = wd .sides }
+withJournal j wd = record {
+  journal = j;
+  limit = wd .limit;
+  spacing = wd .spacing;
+  current = wd .current;
+  sides = wd .sides;
+  greatest = wd .greatest;
+}
 
 abbrev pub withSide : ℕ → Side → World → World
 withSide w p wd = withSides (set (wd .sides) w p) wd
+
+-- a term is used: the greatest is not below it
+abbrev pub raised : Term → World → World
+raised t wd = record {
+  journal = wd .journal;
+  limit = wd .limit;
+  spacing = wd .spacing;
+  current = wd .current;
+  sides = wd .sides;
+  greatest = max (wd .greatest) (t .0);
+}
 
 -- ------------------------------------------------------------------------
 -- The lines
@@ -111,7 +139,8 @@ takeFront acks s rest p =
 -- ------------------------------------------------------------------------
 -- Steps
 
--- A Take says whether it acks an entry that is not the last of its batch. A Start has a batch limit, a spacing and a set of silent windows.
+-- A Take says whether it acks an entry that is not the last of its batch. A Start has a batch limit, a spacing, a first term and a set of
+-- silent windows.
 pub data Step : Type 0 where
   main : ℕ → Step
   catch : ℕ → Term → ℕ → Step
@@ -122,11 +151,11 @@ pub data Step : Type 0 where
   late-ack : ℕ → Term → ℕ → Step
   drop : ℕ → Step
   join : ℕ → Step
-  start : (limit spacing silent : ℕ) → Step
+  start : (limit spacing : ℕ) (first : Term) (silent : ℕ) → Step
   append : Entry → Step
 
--- the papers' number; or a Take or an Ack from an empty line; or a step that is not made: a late ack of a term that is not older, an
--- append past 65,535 entries
+-- the papers' number; or a Take or an Ack from an empty line; or a step that is not made: a late ack of a term that is not older, a Start
+-- whose first term is not above every term used so far, an append past 65,535 entries
 pub data Reply : Type 0 where
   answered : ℕ → Reply
   empty : Reply
@@ -179,6 +208,22 @@ cleared p = withLines [] [] p
 abbrev pub clearedAll : World → World
 clearedAll wd = withSides (map cleared (wd .sides)) wd
 
+-- an ack of an older term than that of window w; where there is no such window, of any term
+abbrev pub isLate : ℕ → Term → World → Bool
+isLate w t wd = leb (length (wd .sides)) w || ltb (t .0) (sideAt w wd .view .term .0)
+
+-- Join answered 0: both ways of the window's line are emptied, and its term is used
+abbrev pub rejoined : ℕ → World → World
+rejoined w wd = raised (sideAt w wd .view .term) (withSide w (cleared (sideAt w wd)) wd)
+
+-- Start answered 0: both ways of every line are emptied, and the first term is used
+abbrev pub restarted : Term → World → World
+restarted first wd = raised first (clearedAll wd)
+
+-- the host's premise of a Start: the first term is above every term used so far
+abbrev pub isNew : Term → World → Bool
+isNew first wd = ltb (wd .greatest) (first .0)
+
 -- the reports for Start, which gets those of the windows that are not silent: the last index of each window's record
 abbrev pub reportsIn : World → List ℕ
 reportsIn wd = map (λ p. p .record′ .last .0) (wd .sides)
@@ -192,14 +237,14 @@ step (send w out) wd = calledThen (sendRule (numbersIn wd) w (length out) (playe
 step (take w acks) wd = cond (ltb w (length (wd .sides))) (takeAtLine w acks (sideAt w wd .line) wd) (stays (answered 2) wd)
 step (ack w) wd = cond (ltb w (length (wd .sides))) (ackAtLine w (sideAt w wd .back) wd) (stays (answered 2) wd)
 step (late-ack w t i) wd =
-    cond (leb (length (wd .sides)) w || ltb (t .0) (sideAt w wd .view .term .0)) (called (ackRule (numbersIn wd) w t i (playerIn wd)) wd)
-    (stays unmade wd)
+    cond (isLate w t wd) (called (ackRule (numbersIn wd) w t i (playerIn wd)) wd) (stays unmade wd)
 step (drop w) wd = called (dropRule (numbersIn wd) w (playerIn wd)) wd
 step (join w) wd =
-    calledThen (joinRule (numbersIn wd) w (sideAt w wd .record′ .last .0) (playerIn wd))
-    (λ wd′. withSide w (cleared (sideAt w wd′)) wd′) wd
-step (start b e silent) wd =
-    calledThen (startRule (numbersIn wd) (length (wd .sides)) b e (said silent (reportsIn wd)) (playerIn wd)) clearedAll wd
+    calledThen (joinRule (numbersIn wd) w (sideAt w wd .record′ .last .0) (playerIn wd)) (rejoined w) wd
+step (start b e first silent) wd =
+    cond (isNew first wd)
+    (calledThen (startRule (numbersIn wd) (length (wd .sides)) b e first (said silent (reportsIn wd)) (playerIn wd)) (restarted first) wd)
+    (stays unmade wd)
 step (append e) wd =
     cond (ltb (length (wd .journal)) 65535)
     (stays (answered 0) (withJournal (wd .journal ++ (e ∷ [])) wd))
@@ -221,12 +266,13 @@ replies wd (s ∷ ss) = step s wd .reply ∷ replies (step s wd .world) ss
 abbrev pub newSide : WindowView → Side
 newSide v = record { view = v; record′ = newRecord; line = []; back = []; taken = [] }
 
--- the world after a first Start
-unfoldable pub opened : List Entry → Outcome → World
-opened j o = record {
+-- the world after a first Start, before which no term was used
+unfoldable pub opened : List Entry → Term → Outcome → World
+opened j first o = record {
   journal = j;
   limit = o .next .limit;
   spacing = o .next .spacing;
   current = o .next .current;
   sides = map newSide (o .next .windows);
+  greatest = first .0;
 }

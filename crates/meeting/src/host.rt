@@ -4,6 +4,7 @@ use crate::tally::Tally;
 use journal::Index;
 use player::Player;
 use record::Record;
+use rules::Term;
 use window::Answer;
 use window::Condition;
 use window::Window;
@@ -14,6 +15,9 @@ const TURNS: u64 = u64::MAX;
 
 // The spacing of ticks: a window that has no entry of its own for so long gets a tick, so that a start does not begin far back.
 const SPACING: u32 = 1000;
+
+// The first term. The player is started once, so no term was used before.
+const FIRST: Term = Term(1);
 
 // The player, a record for each window, and what the host counts.
 pub(crate) struct Host {
@@ -32,12 +36,12 @@ impl Host {
             limit,
             spacing: SPACING,
             current: Index(0),
-            windows: [Window::started(Index(0)); 16],
+            windows: [Window::started(FIRST, Index(0)); 16],
         };
         let reports = [0; 16];
         let count = windows as usize;
         let told = &reports[0..count];
-        let started = operations::start_on(fresh, journal, windows, limit, SPACING, told, 0);
+        let started = operations::start_on(fresh, journal, windows, limit, SPACING, FIRST, told, 0);
         let player = started.player;
         let answer = started.answer;
         Host {

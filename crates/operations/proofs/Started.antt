@@ -15,9 +15,10 @@ use Rattle.window.specs.declared.Answer.{Answer}
 use Rattle.window.specs.declared.Answer.the-variants.{Done, OutOfShape, BadReport, BadSpacing}
 use Rattle.player.specs.declared.Player.{Player}
 use Rattle.player.specs.View.{playerOf}
+use Rattle.rules.specs.declared.Term.{Term}
 use Rattle.rules.specs.Shape.{countFits, limitFits, spacingFits}
 use Rattle.rules.specs.Window.{Report}
-use Rattle.rules.specs.Rules.{refuse, isStartReport, startFits, startRule}
+use Rattle.rules.specs.Rules.{refuse, isStartReport, firstFits, startFits, startRule}
 use Rattle.rules.specs.Offers.{reports-le}
 use Rattle.player.specs.Promise.{freshWindows, freshPlayer, Starts}
 use Rattle.window.specs.Promise.{numberOf}
@@ -29,31 +30,31 @@ pub record Counted (ns : List ℕ) (count n : ℕ) : Type 0 where
   pub same : n ≡ count
   pub entries : countOf ns ≤ 65535
 
-pub counted : (ns : List ℕ) (count limit n : ℕ) → startFits ns count limit n ≡ true → Counted ns count n
-counted ns count limit n h =
+pub counted : (ns : List ℕ) (count limit : ℕ) (first : Term) (n : ℕ) → startFits ns count limit first n ≡ true → Counted ns count n
+counted ns count limit first n h =
     let a = and-left (countFits count) _ h in
-    let b = and-right (limitFits limit) _ (and-right (countFits count) _ h) in
+    let b = and-right (firstFits first) _ (and-right (limitFits limit) _ (and-right (countFits count) _ h)) in
     let e = eqb-true n count (and-right (inShape ns) _ b) in
     let high = leb-true count 16 (and-right (leb 1 count) _ a) in
     record { few = omega arith; same = e; entries = inShape-entries ns (and-left (inShape ns) _ b) }
 
-module _ (ns : List ℕ) (count limit spacing : ℕ) (reports : List Report) (p : Player) where
+module _ (ns : List ℕ) (count limit spacing : ℕ) (first : Term) (reports : List Report) (p : Player) where
   -- what Start promises of an answer beside a player
   abbrev Gives : Answer → Player → Type 0
   Gives a r =
-      Starts p (countOf ns) count limit spacing reports (record { answer = a; player = r })
-      (startRule ns count limit spacing reports (playerOf p))
+      Starts p (countOf ns) count limit spacing first reports (record { answer = a; player = r })
+      (startRule ns count limit spacing first reports (playerOf p))
 
   -- a refusal
-  refused : (a : Answer) → startRule ns count limit spacing reports (playerOf p) ≡ refuse (numberOf a) (playerOf p) → (numberOf a ≡ 0 → ⊥) →
-      Gives a p
+  refused : (a : Answer) → startRule ns count limit spacing first reports (playerOf p) ≡ refuse (numberOf a) (playerOf p) →
+      (numberOf a ≡ 0 → ⊥) → Gives a p
   refused a e n = rw e (record { answer = refl; next = refl; fresh = λ z. absurd (n z); unchanged = λ h. refl })
 
-  pub start-shapeless : startFits ns count limit (length reports) ≡ false → Gives OutOfShape p
+  pub start-shapeless : startFits ns count limit first (length reports) ≡ false → Gives OutOfShape p
   unfolding startRule
   start-shapeless h = refused OutOfShape (rw h) (λ z. omega arith)
 
-  module _ (h : startFits ns count limit (length reports) ≡ true) where
+  module _ (h : startFits ns count limit first (length reports) ≡ true) where
     pub start-unspaced : spacingFits spacing ≡ false → Gives BadSpacing p
     unfolding startRule
     start-unspaced s = refused BadSpacing (rw (h, s)) (λ z. omega arith)
@@ -63,22 +64,22 @@ module _ (ns : List ℕ) (count limit spacing : ℕ) (reports : List Report) (p 
       unfolding startRule
       start-refused b = refused BadReport (rw (h, s, b)) (λ z. omega arith)
 
-      pub start-done : all (isStartReport (countOf ns)) reports ≡ true → (r : Player) → r ≡ freshPlayer (countOf ns) count limit spacing reports →
-          Gives Done r
+      pub start-done : all (isStartReport (countOf ns)) reports ≡ true → (r : Player) →
+          r ≡ freshPlayer (countOf ns) count limit spacing first reports → Gives Done r
       unfolding startRule
       start-done b r e =
           rw (h, s, b, e)
           (record {
             answer = refl;
-            next = freshPlayer-shown (countOf ns) count limit spacing reports (counted ns count limit _ h .same);
+            next = freshPlayer-shown (countOf ns) count limit spacing first reports (counted ns count limit first _ h .same);
             fresh = λ z. refl;
             unchanged = λ x. absurd (x refl);
           })
 
 -- the player that code makes, from its parts, where the reports are right
-pub started-player : (ns : List ℕ) (r : Player) (reports : List Report) → all (isStartReport (countOf ns)) reports ≡ true →
-    r .current .0 ≡ lowest (countOf ns) reports → r .windows ≡ freshWindows (countOf ns) reports →
-    r ≡ freshPlayer (countOf ns) (r .count) (r .limit) (r .spacing) reports
-started-player ns r reports b l w =
+pub started-player : (ns : List ℕ) (r : Player) (first : Term) (reports : List Report) → all (isStartReport (countOf ns)) reports ≡ true →
+    r .current .0 ≡ lowest (countOf ns) reports → r .windows ≡ freshWindows first (countOf ns) reports →
+    r ≡ freshPlayer (countOf ns) (r .count) (r .limit) (r .spacing) first reports
+started-player ns r first reports b l w =
     ap₂ (λ i ws. record { count = r .count; limit = r .limit; spacing = r .spacing; current = record { 0 = i }; windows = ws })
     (l ∙ lowest-least (countOf ns) reports (reports-le (countOf ns) reports b)) w

@@ -13,6 +13,7 @@ use Rattle.window.specs.Promise.{freshWindow, windowBy}
 use Rattle.window.specs.Laws.{viewOf-by}
 use Rattle.player.specs.View.{firstWindows, playerOf}
 use Rattle.player.specs.Promise.{freshWindows, freshPlayer}
+use Rattle.rules.specs.declared.Term.{Term}
 use Rattle.rules.specs.Window.{Report, told, silence, startedBy}
 use Rattle.rules.specs.Rules.{saidBy, said, isStartReport, spoken, least}
 use Rattle.rules.specs.Offers.{startNext, said-length, said-at}
@@ -91,38 +92,39 @@ lowest-least l (silence ∷ rs) h = lowest-least l rs (λ w. h (suc w))
 -- ------------------------------------------------------------------------
 -- freshWindows
 
-pub freshWindows-none : (l : ℕ) → replicate 16 (freshWindow 0) ≡ freshWindows l []
+pub freshWindows-none : (first : Term) (l : ℕ) → replicate 16 (freshWindow first 0) ≡ freshWindows first l []
 unfolding freshWindows
-freshWindows-none l = refl
+freshWindows-none first l = refl
 
 -- one more window, from what is said of it
-freshWindows-snoc : (l : ℕ) (rs : List Report) (r : Report) (w : ℕ) → length rs ≡ w → w < 16 →
-    set (freshWindows l rs) w (windowBy l r) ≡ freshWindows l (rs ++ (r ∷ []))
+freshWindows-snoc : (first : Term) (l : ℕ) (rs : List Report) (r : Report) (w : ℕ) → length rs ≡ w → w < 16 →
+    set (freshWindows first l rs) w (windowBy first l r) ≡ freshWindows first l (rs ++ (r ∷ []))
 unfolding freshWindows
-freshWindows-snoc l rs r w e h =
+freshWindows-snoc first l rs r w e h =
     let left : 16 - length rs ≡ suc (16 - suc (length rs)) = omega arith in
     let after : length (rs ++ (r ∷ [])) ≡ suc (length rs) = omega (arith, length-append rs (r ∷ [])) in
-    rw (left, set-at (map (windowBy l) rs) (freshWindow 0) _ (windowBy l r) w (length-map rs (windowBy l) ∙ e), map-append, after)
-    (sym (append-assoc (map (windowBy l) rs) (windowBy l r ∷ []) _))
+    let by : Report → Window = windowBy first l in
+    rw (left, set-at (map by rs) (freshWindow first 0) _ (by r) w (length-map rs by ∙ e), map-append, after)
+    (sym (append-assoc (map by rs) (by r ∷ []) _))
 
-pub freshWindows-more : (l silent : ℕ) (reports : List ℕ) (w : ℕ) → w < length reports → w < 16 →
-    set (freshWindows l (take w (said silent reports))) w (windowBy l (saidBy silent w (getD reports w 0)))
-    ≡ freshWindows l (take (w + 1) (said silent reports))
-freshWindows-more l silent reports w h few =
+pub freshWindows-more : (first : Term) (l silent : ℕ) (reports : List ℕ) (w : ℕ) → w < length reports → w < 16 →
+    set (freshWindows first l (take w (said silent reports))) w (windowBy first l (saidBy silent w (getD reports w 0)))
+    ≡ freshWindows first l (take (w + 1) (said silent reports))
+freshWindows-more first l silent reports w h few =
     let within = said-within silent reports w h in
     rw (said-take silent reports w h)
-    (freshWindows-snoc l (take w (said silent reports)) _ w (length-take-le w (said silent reports) (omega arith)) few)
+    (freshWindows-snoc first l (take w (said silent reports)) _ w (length-take-le w (said silent reports) (omega arith)) few)
 
-firstWindows-fresh : (l : ℕ) (rs : List Report) (ws : List Window) →
-    firstWindows (length rs) (map (windowBy l) rs ++ ws) ≡ map (startedBy l) rs
+firstWindows-fresh : (first : Term) (l : ℕ) (rs : List Report) (ws : List Window) →
+    firstWindows (length rs) (map (windowBy first l) rs ++ ws) ≡ map (startedBy first l) rs
 unfolding firstWindows
-firstWindows-fresh l [] ws = refl
-firstWindows-fresh l (r ∷ rs) ws = ap₂ _∷_ (viewOf-by l r) (firstWindows-fresh l rs ws)
+firstWindows-fresh first l [] ws = refl
+firstWindows-fresh first l (r ∷ rs) ws = ap₂ _∷_ (viewOf-by first l r) (firstWindows-fresh first l rs ws)
 
 -- what a fresh player shows
-pub freshPlayer-shown : (l count limit spacing : ℕ) (rs : List Report) → length rs ≡ count →
-    playerOf (freshPlayer l count limit spacing rs) ≡ startNext l limit spacing rs
+pub freshPlayer-shown : (l count limit spacing : ℕ) (first : Term) (rs : List Report) → length rs ≡ count →
+    playerOf (freshPlayer l count limit spacing first rs) ≡ startNext l limit spacing first rs
 unfolding playerOf freshWindows
-freshPlayer-shown l count limit spacing rs e =
+freshPlayer-shown l count limit spacing first rs e =
     ap (λ vs. record { limit = limit; spacing = spacing; current = least l (spoken rs); windows = vs })
-    (ap (λ n. firstWindows n (freshWindows l rs)) (sym e) ∙ firstWindows-fresh l rs _)
+    (ap (λ n. firstWindows n (freshWindows first l rs)) (sym e) ∙ firstWindows-fresh first l rs _)

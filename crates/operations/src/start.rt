@@ -3,6 +3,7 @@ use journal::Index;
 use player::Played;
 use player::Player;
 use player::count_fits;
+use rules::Term;
 use window::Answer;
 use window::Window;
 use window::limit_fits;
@@ -15,17 +16,27 @@ ghost use Rattle.lists.specs.All.{all};
 ghost use Rattle.window.specs.Promise.{windowBy};
 ghost use Rattle.player.specs.View.{playerOf};
 ghost use Rattle.player.specs.Promise.{freshWindows, Starts};
-ghost use Rattle.rules.specs.Rules.{saidBy, said, isStartReport, startFits, startRule};
+ghost use Rattle.rules.specs.Rules.{saidBy, said, isStartReport, firstFits, startFits, startRule};
 ghost use Rattle.operations.specs.Starting.{lesser, lowest};
 
-// Whether the number of windows, the batch limit and the journal are in shape, and there are exactly so many reports.
-fn start_in_shape(journal: &[u32], count: u32, limit: u32, reports: &[u32]) -> bool
-    ensures { λ r. ⌜ r ≡ startFits (now (journal .entry)) count limit (length (now (reports .entry))) ⌝ }
+// Whether a term can be the first: any but 0.
+fn first_fits(first: Term) -> bool
+    ensures { λ r. ⌜ r ≡ firstFits first ⌝ }
+{
+    1 <= first.0
+}
+
+// Whether the number of windows, the batch limit, the first term and the journal are in shape, and there are exactly so many reports.
+fn start_in_shape(journal: &[u32], count: u32, limit: u32, first: Term, reports: &[u32]) -> bool
+    ensures { λ r. ⌜ r ≡ startFits (now (journal .entry)) count limit first (length (now (reports .entry))) ⌝ }
 {
     if !count_fits(count) {
         return false;
     }
     if !limit_fits(limit) {
+        return false;
+    }
+    if !first_fits(first) {
         return false;
     }
     if !journal::in_shape(journal) {
@@ -86,48 +97,50 @@ fn lowest(l: u32, reports: &[u32], silent: u32) -> Index
 }
 
 // Window w as Start leaves it.
-fn window_of(l: Index, w: u32, report: Index, silent: u32) -> Window
-    ensures { λ r. ⌜ r ≡ windowBy (l .0) (saidBy silent w (report .0)) ⌝ }
+fn window_of(first: Term, l: Index, w: u32, report: Index, silent: u32) -> Window
+    ensures { λ r. ⌜ r ≡ windowBy first (l .0) (saidBy silent w (report .0)) ⌝ }
 {
     if journal::has(silent, w) {
-        return Window::silent(l);
+        return Window::silent(first, l);
     }
-    Window::started(report)
+    Window::started(first, report)
 }
 
 // The sixteen windows as Start leaves them: those from the number of reports up with a report of 0.
-fn windows_of(l: Index, reports: &[u32], silent: u32) -> [Window; 16]
+fn windows_of(first: Term, l: Index, reports: &[u32], silent: u32) -> [Window; 16]
     requires { ⌜ length (now reports) ≤ 16 ⌝ }
-    ensures { λ r. ⌜ r ≡ freshWindows (l .0) (said silent (now (reports .entry))) ⌝ }
+    ensures { λ r. ⌜ r ≡ freshWindows first (l .0) (said silent (now (reports .entry))) ⌝ }
 {
-    let none = Window::started(Index(0));
+    let none = Window::started(first, Index(0));
     let mut windows = [none; 16];
     let mut next = 0;
     while next < reports.len() {
         let w = next as u32;
-        windows[next] = window_of(l, w, Index(reports[next]), silent);
+        windows[next] = window_of(first, l, w, Index(reports[next]), silent);
         next += 1;
     }
     windows
 }
 
-// Start: 1, also where there are not exactly `count` reports; 18: the spacing is not 1 to 65,535; 13: a report above L, unless the window
-// is silent. A window begins from its report, or as `Window::silent` has it; those from `count` up from a report of 0. `current` is the
-// least report of a window that is not silent, or L where all are. What the player held before is not read.
+// Start: 1, also where the first term is 0 or there are not exactly `count` reports; 18: the spacing is not 1 to 65,535; 13: a report above
+// L, unless the window is silent. Every window begins on the first term, from its report, or as `Window::silent` has it; those from `count`
+// up from a report of 0. `current` is the least report of a window that is not silent, or L where all are. What the player held before is
+// not read: that the first term is above every term used so far is for the host to see to.
 pub fn start_on(
     player: Player,
     journal: &[u32],
     count: u32,
     limit: u32,
     spacing: u32,
+    first: Term,
     reports: &[u32],
     silent: u32,
 ) -> Played
     ensures { λ r.
-        ⌜ Starts player (countOf (now (journal .entry))) count limit spacing (said silent (now (reports .entry))) r
-        (startRule (now (journal .entry)) count limit spacing (said silent (now (reports .entry))) (playerOf player)) ⌝ }
+        ⌜ Starts player (countOf (now (journal .entry))) count limit spacing first (said silent (now (reports .entry))) r
+        (startRule (now (journal .entry)) count limit spacing first (said silent (now (reports .entry))) (playerOf player)) ⌝ }
 {
-    if !start_in_shape(journal, count, limit, reports) {
+    if !start_in_shape(journal, count, limit, first, reports) {
         return Played {
             answer: Answer::OutOfShape,
             player,
@@ -151,7 +164,7 @@ pub fn start_on(
         limit,
         spacing,
         current: lowest(l, reports, silent),
-        windows: windows_of(Index(l), reports, silent),
+        windows: windows_of(first, Index(l), reports, silent),
     };
     Played {
         answer: Answer::Done,

@@ -7,6 +7,7 @@ use lib.ListN.{length, drop, replicate}
 use lib.Dec.{leb}
 use Rattle.journal.specs.Entry.{inShape, countOf}
 use Rattle.rules.specs.Shape.{countFits, limitFits, spacingFits}
+use Rattle.rules.specs.declared.Term.{Term}
 use Rattle.rules.specs.Window.{Report}
 use Rattle.rules.specs.Rules.{Outcome, spoken, least}
 use Rattle.window.specs.Promise.{numberOf, freshWindow, windowBy}
@@ -23,26 +24,28 @@ pub record Meets (before : Player) (r : Played) (o : Outcome) : Type 0 where
   pub unchanged : (o .answer ≡ 0 → ⊥) → r .player ≡ before
   pub above : drop (before .count) (r .player .windows) ≡ drop (before .count) (before .windows)
 
--- the sixteen windows of a fresh player, with L: one for each report or silence, and from W up those of a report of 0
-unfoldable pub freshWindows : ℕ → List Report → List Window
-freshWindows l reports = map (windowBy l) reports ++ replicate (16 - length reports) (freshWindow 0)
+-- the sixteen windows of a fresh player, on the first term and with L: one for each report or silence, and from W up those of a report
+-- of 0
+unfoldable pub freshWindows : Term → ℕ → List Report → List Window
+freshWindows first l reports = map (windowBy first l) reports ++ replicate (16 - length reports) (freshWindow first 0)
 
 -- a fresh player, whole
-abbrev pub freshPlayer : (l count limit spacing : ℕ) → List Report → Player
-freshPlayer l count limit spacing reports = record {
+abbrev pub freshPlayer : (l count limit spacing : ℕ) → Term → List Report → Player
+freshPlayer l count limit spacing first reports = record {
   count = count;
   limit = limit;
   spacing = spacing;
   current = record { 0 = least l (spoken reports) };
-  windows = freshWindows l reports;
+  windows = freshWindows first l reports;
 }
 
 -- Start over a journal of l entries: its answer is the rule's; answered 0, the next state is a fresh player, whose view is the rule's; a
 -- refusal gives back the player handed in
-pub record Starts (before : Player) (l count limit spacing : ℕ) (reports : List Report) (r : Played) (o : Outcome) : Type 0 where
+pub record Starts (before : Player) (l count limit spacing : ℕ) (first : Term) (reports : List Report) (r : Played) (o : Outcome)
+    : Type 0 where
   pub answer : numberOf (r .answer) ≡ o .answer
   pub next : playerOf (r .player) ≡ o .next
-  pub fresh : o .answer ≡ 0 → r .player ≡ freshPlayer l count limit spacing reports
+  pub fresh : o .answer ≡ 0 → r .player ≡ freshPlayer l count limit spacing first reports
   pub unchanged : (o .answer ≡ 0 → ⊥) → r .player ≡ before
 
 -- what the shape asks of the player's numbers and of the journal, beside each window

@@ -49,10 +49,19 @@ fn catch_alone(window: Window, journal: &[u32], w: u32, n: Line) -> Window {
     turned.window
 }
 
-// Start with the first `len` reports, and the spacing and the set of silent windows before W.
-fn start(p: Player, journal: &[u32], n: Line, reports: &[u32], len: usize) -> Player {
+// Start with a first term and the first `len` reports, and the spacing and the set of silent windows before W.
+fn start(p: Player, journal: &[u32], n: Line, first: Term, reports: &[u32], len: usize) -> Player {
     if len <= reports.len() {
-        return answered(operations::start_on(p, journal, n.c, n.d, n.a, &reports[0..len], n.b));
+        return answered(operations::start_on(
+            p,
+            journal,
+            n.c,
+            n.d,
+            n.a,
+            first,
+            &reports[0..len],
+            n.b,
+        ));
     }
     p
 }
@@ -108,7 +117,7 @@ fn over(s: State, journal: &[u32], n: Line, letter: u8) -> Player {
     let reports = s.reports;
     let cells = reports.cells;
     match letter {
-        b'P' => start(p, journal, n, &cells, reports.len),
+        b'P' => start(p, journal, n, Term(s.first), &cells, reports.len),
         b'O' => {
             send_alone(s.window(), journal, w, p.limit);
             p

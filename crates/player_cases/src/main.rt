@@ -10,7 +10,7 @@
 // | `v` | one more entry of the journal: windows, kind, race, value | `S` | Send: window, size of the output lent, how much is shown |
 // | `j` | how many numbers of the journal count | `W` | Written: window, term |
 // | `x` | the spacing | `N`, `Q` | at the window on its own: Main: spacing, index; Catch: term, index |
-// | `r` | one more report for Start | `A` | Ack: window, term, index |
+// | `r`, `y` | one more report for Start; its first term, 1 where none is set | `A` | Ack: window, term, index |
 // | `t` | the window that the letters below change | `D` | Drop: window |
 // | `i` | every window as this one is | `J` | Join: window, report |
 // | `h` | idle | `P` | Start: spacing, the set of silent windows, W, batch limit |

@@ -6,11 +6,12 @@ use journal::Index;
 use player::Player;
 use window::Window;
 
-// The player, the numbers of the journal, the reports for Start, and the place of the window that letters change.
+// The player, the numbers of the journal, the reports and the first term for Start, and the place of the window that letters change.
 pub(crate) struct State {
     pub(crate) player: Player,
     pub(crate) journal: Numbers,
     pub(crate) reports: Numbers,
+    pub(crate) first: u32,
     pub(crate) place: usize,
 }
 
@@ -27,6 +28,7 @@ pub(crate) fn first() -> State {
         player,
         journal: Numbers::none(),
         reports: Numbers::none(),
+        first: 1,
         place: 0,
     }
 }
@@ -118,6 +120,11 @@ fn reports(told: Numbers, n: Line, letter: u8) -> Numbers {
     told
 }
 
+// The first term that a letter makes of one.
+fn first_term(given: u32, n: Line, letter: u8) -> u32 {
+    if letter == b'y' { n.d } else { given }
+}
+
 // The state that a letter makes of a state.
 pub(crate) fn set(s: State, n: Line, letter: u8) -> State {
     let read = s.journal;
@@ -125,11 +132,13 @@ pub(crate) fn set(s: State, n: Line, letter: u8) -> State {
     let player = player(s, n, letter);
     let journal = journal(read, n, letter);
     let reports = reports(told, n, letter);
+    let first = first_term(s.first, n, letter);
     if letter == b't' {
         return State {
             player,
             journal,
             reports,
+            first,
             place: n.d as usize,
         };
     }
@@ -137,6 +146,7 @@ pub(crate) fn set(s: State, n: Line, letter: u8) -> State {
         player,
         journal,
         reports,
+        first,
         place: s.place,
     }
 }

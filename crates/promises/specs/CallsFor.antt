@@ -20,7 +20,7 @@ use Rattle.player.specs.declared.Played.{Played}
 use Rattle.player.specs.View.{playerOf}
 use Rattle.player.specs.Promise.{freshPlayer, Starts}
 use Rattle.operations.specs.Starting.{freshPlayer-shown}
-use Rattle.delivery.specs.World.{World, Step, Reply, answered, empty, unmade, step}
+use Rattle.delivery.specs.World.{World, Step, Reply, answered, empty, unmade, isNew, step}
 use Rattle.delivery.specs.World as W
 use Rattle.delivery.specs.Invariant.{Reached}
 use Rattle.delivery.specs.Worlds.{count-in}
@@ -36,24 +36,25 @@ use Rattle.calls.specs.CallFor.{CallFor, call-main, call-catch, call-written, c
 -- Start
 
 -- what Start gives
-pub record StartGiven (before : Player) (ns : List ℕ) (count limit spacing : ℕ) (reports : List Report) : Type 0 where
+pub record StartGiven (before : Player) (ns : List ℕ) (count limit spacing : ℕ) (first : Term) (reports : List Report) : Type 0 where
   pub gave : Played
-  pub meets : Starts before (countOf ns) count limit spacing reports gave (startRule ns count limit spacing reports (playerOf before))
+  pub meets : Starts before (countOf ns) count limit spacing first reports gave
+      (startRule ns count limit spacing first reports (playerOf before))
 
 -- A result to be read: whatever Start is handed, something can be given that meets its promise.
-pub start-given : (before : Player) (ns : List ℕ) (count limit spacing : ℕ) (reports : List Report) →
-    StartGiven before ns count limit spacing reports
-start-given before ns count limit spacing reports =
-    let o : Outcome = startRule ns count limit spacing reports (playerOf before) in
-    let a = start-numbered ns count limit spacing reports (playerOf before) in
+pub start-given : (before : Player) (ns : List ℕ) (count limit spacing : ℕ) (first : Term) (reports : List Report) →
+    StartGiven before ns count limit spacing first reports
+start-given before ns count limit spacing first reports =
+    let o : Outcome = startRule ns count limit spacing first reports (playerOf before) in
+    let a = start-numbered ns count limit spacing first reports (playerOf before) in
     ⊎-elim
     (λ (z : o .answer ≡ 0).
-    let d = startRule-done ns count limit spacing reports (playerOf before) z in
+    let d = startRule-done ns count limit spacing first reports (playerOf before) z in
     record {
-      gave = record { player = freshPlayer (countOf ns) count limit spacing reports; answer = a .answer };
+      gave = record { player = freshPlayer (countOf ns) count limit spacing first reports; answer = a .answer };
       meets = record {
         answer = a .number;
-        next = freshPlayer-shown (countOf ns) count limit spacing reports (d .given .each) ∙ sym (d .next);
+        next = freshPlayer-shown (countOf ns) count limit spacing first reports (d .given .each) ∙ sym (d .next);
         fresh = λ x. refl;
         unchanged = λ n. absurd (n z);
       };
@@ -62,22 +63,24 @@ start-given before ns count limit spacing reports =
       gave = record { player = before; answer = a .answer };
       meets = record {
         answer = a .number;
-        next = sym (startRule-refuses ns count limit spacing reports (playerOf before) n);
+        next = sym (startRule-refuses ns count limit spacing first reports (playerOf before) n);
         fresh = λ z. absurd (n z);
         unchanged = λ x. refl;
       };
     })
     (eq-or-ne (o .answer) 0)
 
-call-start : (h : Host) (limit spacing silent : ℕ) → CallFor h (W.start limit spacing silent)
-call-start h limit spacing silent =
-    let g = start-given (h .player) (h .journal) (length (h .windows)) limit spacing (said silent (map reportOf (h .windows))) in
-    record { call = start limit spacing silent (g .gave); same = refl; made = g .meets }
+call-start : (h : Host) (limit spacing : ℕ) (first : Term) (silent : ℕ) → h .greatest < first .0 →
+    CallFor h (W.start limit spacing first silent)
+call-start h limit spacing first silent above =
+    let g = start-given (h .player) (h .journal) (length (h .windows)) limit spacing first (said silent (map reportOf (h .windows))) in
+    record { call = start limit spacing first silent (g .gave); same = refl; made = (above, g .meets) }
 
 -- ------------------------------------------------------------------------
 -- One step
 
--- a late ack of a term that is not older, and an append past 65,535 entries, are not made
+-- a late ack of a term that is not older, a Start whose first term is not above the greatest used, and an append past 65,535 entries are
+-- not made
 abbrev pub isMade : Reply → Bool
 isMade (answered n) = true
 isMade empty = true
@@ -91,6 +94,15 @@ module _ {h : Host} {wd : World} (is : Shows h wd) where
       (λ (late : isLate w t h ≡ true). late)
       (λ (soon : isLate w t h ≡ false). absurd (false≢true (rw (sym (shows-late is w t) ∙ soon) at made)))
       (true-or-false (isLate w t h))
+
+  first-above : (limit spacing : ℕ) (first : Term) (silent : ℕ) → isMade (step (W.start limit spacing first silent) wd .reply) ≡ true →
+      h .greatest < first .0
+  unfolding step
+  first-above limit spacing first silent made =
+      ⊎-elim
+      (λ (new : isNew first wd ≡ true). rw (is .greatest) (ltb-true _ _ new))
+      (λ (used : isNew first wd ≡ false). absurd (false≢true (rw used at made)))
+      (true-or-false (isNew first wd))
 
   append-made : (e : Entry) → isMade (step (W.append e) wd .reply) ≡ true → countOf (h .journal) < 65535
   unfolding step
@@ -110,7 +122,8 @@ module _ {h : Host} {wd : World} (is : Shows h wd) where
   call-for (W.late-ack w t i) made = call-late h w t i (late-made w t i made)
   call-for (W.drop w) made = call-drop h w
   call-for (W.join w) made = call-join h w
-  call-for (W.start limit spacing silent) made = call-start h limit spacing silent
+  call-for (W.start limit spacing first silent) made =
+      call-start h limit spacing first silent (first-above limit spacing first silent made)
   call-for (W.append e) made = call-append h e (append-made e made)
 
 -- ------------------------------------------------------------------------

@@ -14,8 +14,7 @@ use Rattle.player.specs.declared.Played.{Played}
 use Rattle.player.specs.View.{firstWindows, playerOf}
 use Rattle.player.specs.Promise.{freshWindows, freshPlayer}
 use Rattle.delivery.specs.World.{World, sideAt, Step, main, catch, written, send, take, ack, late-ack, drop, join, start, append, answered, run, replies}
-use Rattle.delivery.specs.World as W
-use Rattle.delivery.specs.Statement.{newReports, firstStart}
+use Rattle.delivery.specs.Statement.{newReports, firstStart, firstWorld}
 use Rattle.delivery.specs.Demand3.{opened-reached}
 use Rattle.delivery.specs.Examples.{computed, done, wide, term, room}
 use Rattle.calls.specs.Host.{Host, endAt, Call, MadeAll, batchIn, hostAfter, opened}
@@ -42,20 +41,21 @@ journal3 = 3 ∷ 1 ∷ 1 ∷ 50400 ∷ 1 ∷ 2 ∷ 1 ∷ 350 ∷ 2 ∷ 3 ∷ 1 �
 
 -- what the Start gives
 abbrev pub begun : Played
-begun = record { player = freshPlayer 3 2 2 wide (newReports 0 2); answer = Done }
+begun = record { player = freshPlayer 3 2 2 wide (term 1) (newReports 0 2); answer = Done }
 
 abbrev pub host0 : Host
-host0 = opened (begun .player) journal3 2
+host0 = opened (begun .player) (term 1) journal3 2
 
 -- a batch of two taken, its first entry acknowledged by itself, and the line dropped before the ack of the second; that ack is refused,
 -- the window joins, and the ack comes late and is refused again; one more entry is appended, read, sent, taken and acknowledged; nothing
--- is to be fetched; the player starts anew, with spacing 1 and with window 1 silent, which joins and fetches the first entry; an entry for
--- window 1 is appended and read, and window 0 gets a tick in its place, which is sent, taken and acknowledged
+-- is to be fetched; the player starts anew, with spacing 1, first term 3 and window 1 silent; window 0's last ack comes once more and is
+-- refused; window 1 joins and fetches the first entry; an entry for window 1 is appended and read, and window 0 gets a tick in its place,
+-- which is sent, taken and acknowledged
 abbrev pub everyKind : List Step
 everyKind =
     main 1 ∷ main 2 ∷ send 0 room ∷ take 0 true ∷ ack 0 ∷ take 0 false ∷ drop 0 ∷ ack 0 ∷ join 0 ∷ late-ack 0 (term 1) 2
     ∷ append (entry4 1 2 1 400) ∷ main 3 ∷ main 4 ∷ send 0 room ∷ written 0 (term 2) ∷ take 0 false ∷ ack 0
-    ∷ catch 0 (term 2) 4 ∷ start 2 1 2 ∷ join 1 ∷ catch 1 (term 2) 1
+    ∷ catch 0 (term 2) 4 ∷ start 2 1 (term 3) 2 ∷ late-ack 0 (term 2) 4 ∷ join 1 ∷ catch 1 (term 4) 1
     ∷ append (entry4 2 2 1 7) ∷ main 5 ∷ send 0 room ∷ take 0 false ∷ ack 0 ∷ []
 
 -- what window 0 has then taken
@@ -65,20 +65,20 @@ taken0 =
 
 module _ (before : Player) where
   -- the Start meets its promise and is answered 0
-  pub begun-starts : FirstStart before journal3 2 2 wide 0 begun
+  pub begun-starts : FirstStart before journal3 2 2 wide (term 1) 0 begun
   unfolding computed playerOf firstWindows freshWindows viewOf itemsOf batchesOf front
   begun-starts = record { answer = refl; next = refl; fresh = λ z. refl; unchanged = λ n. absurd (n refl) }
 
   -- the world that the host shows
   abbrev pub world0 : World
-  world0 = W.opened (entriesOf journal3) (firstStart (playerOf before) (entriesOf journal3) 2 2 wide 0)
+  world0 = firstWorld (playerOf before) (entriesOf journal3) 2 2 wide (term 1) 0
 
   -- what the steps answer, all of which are made, and what window 0 has taken
   pub record Computed : Type 0 where
     pub all : allMade world0 everyKind ≡ true
     pub answers : replies world0 everyKind ≡
         done ∷ done ∷ done ∷ done ∷ done ∷ done ∷ done ∷ answered 3 ∷ done ∷ answered 5
-        ∷ done ∷ done ∷ done ∷ done ∷ done ∷ done ∷ done ∷ answered 4 ∷ done ∷ done ∷ done
+        ∷ done ∷ done ∷ done ∷ done ∷ done ∷ done ∷ done ∷ answered 4 ∷ done ∷ answered 5 ∷ done ∷ done
         ∷ done ∷ done ∷ done ∷ done ∷ done ∷ []
     pub taken : endOf (sideAt 0 (run world0 everyKind)) .taken ≡ taken0
 
@@ -86,7 +86,7 @@ module _ (before : Player) where
   unfolding computed allMade
   every-kind = record { all = refl; answers = refl; taken = refl }
 
-  first-done : firstStart (playerOf before) (entriesOf journal3) 2 2 wide 0 .answer ≡ 0
+  first-done : firstStart (playerOf before) (entriesOf journal3) 2 2 wide (term 1) 0 .answer ≡ 0
   unfolding computed
   first-done = refl
 
@@ -103,10 +103,10 @@ module _ (before : Player) where
 
   pub ran : Ran
   ran =
-      let shows = opened-shows before journal3 2 2 wide 0 begun begun-starts refl in
-      let reached = opened-reached (playerOf before) (entriesOf journal3) 2 2 wide 0 first-done in
+      let shows = opened-shows before journal3 2 2 wide (term 1) 0 begun begun-starts refl in
+      let reached = opened-reached (playerOf before) (entriesOf journal3) 2 2 wide (term 1) 0 first-done in
       let c : CallsFor host0 everyKind = calls-for shows reached everyKind (every-kind .all) in
-      let delivers = demand-3-calls before journal3 2 2 wide 0 begun begun-starts refl (c .calls) (c .made) in
+      let delivers = demand-3-calls before journal3 2 2 wide (term 1) 0 begun begun-starts refl (c .calls) (c .made) in
       record {
         calls = c .calls;
         steps = c .same;
@@ -117,5 +117,5 @@ module _ (before : Player) where
             ∙ every-kind .taken;
         leading = delivers .leading 0 (omega arith);
         delivers = delivers;
-        counts = exact-counts-calls before journal3 2 2 wide 0 begun begun-starts refl (c .calls) (c .made);
+        counts = exact-counts-calls before journal3 2 2 wide (term 1) 0 begun begun-starts refl (c .calls) (c .made);
       }

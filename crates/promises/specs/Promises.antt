@@ -48,46 +48,47 @@ use Rattle.operations.proofs.join_on.Reads as join-reads
 use Rattle.operations.proofs.start_on.Kinds as start-kinds
 use Rattle.operations.proofs.start_on.Reads as start-reads
 
--- a host with this player and journal, and any ends of its windows
-abbrev holding : Player → List ℕ → List WindowEnd → Host
-holding p ns ds = record { player = p; journal = ns; windows = ds }
+-- a host with this player and journal, any ends of its windows and any greatest term
+abbrev holding : Player → List ℕ → List WindowEnd → ℕ → Host
+holding p ns ds used = record { player = p; journal = ns; windows = ds; greatest = used }
 
 -- ------------------------------------------------------------------------
 -- Calls of which the host chooses every argument but the player and the journal
 
 pub main-made : (κs : Lfts 1) (a : Dens κs main-kinds.ps) (r : Played) (s : AtExit (endedOf 1 main-kinds.ps main-kinds.r) κs) →
     main-reads.Post κs a r s →
-    (ds : List WindowEnd) → Made (holding (a .0) (now (a .1 .0)) ds) (main (a .1 .1 .0) r)
-main-made κs a r s h ds = h
+    (ds : List WindowEnd) (used : ℕ) → Made (holding (a .0) (now (a .1 .0)) ds used) (main (a .1 .1 .0) r)
+main-made κs a r s h ds used = h
 
 pub catch-made : (κs : Lfts 1) (a : Dens κs catch-kinds.ps) (r : Played) (s : AtExit (endedOf 1 catch-kinds.ps catch-kinds.r) κs) →
     catch-reads.Post κs a r s →
-    (ds : List WindowEnd) → Made (holding (a .0) (now (a .1 .0)) ds) (catch (a .1 .1 .0) (a .1 .1 .1 .0) (a .1 .1 .1 .1 .0) r)
-catch-made κs a r s h ds = h
+    (ds : List WindowEnd) (used : ℕ) →
+    Made (holding (a .0) (now (a .1 .0)) ds used) (catch (a .1 .1 .0) (a .1 .1 .1 .0) (a .1 .1 .1 .1 .0) r)
+catch-made κs a r s h ds used = h
 
 pub written-made : (κs : Lfts 1) (a : Dens κs written-kinds.ps) (r : Played) (s : AtExit (endedOf 1 written-kinds.ps written-kinds.r) κs) →
     written-reads.Post κs a r s →
-    (ds : List WindowEnd) → Made (holding (a .0) (now (a .1 .0)) ds) (written (a .1 .1 .0) (a .1 .1 .1 .0) r)
-written-made κs a r s h ds = h
+    (ds : List WindowEnd) (used : ℕ) → Made (holding (a .0) (now (a .1 .0)) ds used) (written (a .1 .1 .0) (a .1 .1 .1 .0) r)
+written-made κs a r s h ds used = h
 
 -- the output is lent as `a .1 .1 .1 .0` and left as `s .1 .1 .1 .0`
 pub send-made : (κs : Lfts 2) (a : Dens κs send-kinds.ps) (r : Played) (s : AtExit (endedOf 2 send-kinds.ps send-kinds.r) κs) →
     send-reads.Post κs a r s →
-    (ds : List WindowEnd) →
-    Made (holding (a .0) (now (a .1 .0)) ds) (send (a .1 .1 .0) (now (a .1 .1 .1 .0)) r (now (s .1 .1 .1 .0)))
-send-made κs a r s h ds = h
+    (ds : List WindowEnd) (used : ℕ) →
+    Made (holding (a .0) (now (a .1 .0)) ds used) (send (a .1 .1 .0) (now (a .1 .1 .1 .0)) r (now (s .1 .1 .1 .0)))
+send-made κs a r s h ds used = h
 
 pub drop-made : (κs : Lfts 1) (a : Dens κs drop-kinds.ps) (r : Played) (s : AtExit (endedOf 1 drop-kinds.ps drop-kinds.r) κs) →
     drop-reads.Post κs a r s →
-    (ds : List WindowEnd) → Made (holding (a .0) (now (a .1 .0)) ds) (drop (a .1 .1 .0) r)
-drop-made κs a r s h ds = h
+    (ds : List WindowEnd) (used : ℕ) → Made (holding (a .0) (now (a .1 .0)) ds used) (drop (a .1 .1 .0) r)
+drop-made κs a r s h ds used = h
 
 -- the term is older than the player's
 pub late-ack-made : (κs : Lfts 1) (a : Dens κs ack-kinds.ps) (r : Played) (s : AtExit (endedOf 1 ack-kinds.ps ack-kinds.r) κs) →
     ack-reads.Post κs a r s →
-    (ds : List WindowEnd) → isLate (a .1 .1 .0) (a .1 .1 .1 .0) (holding (a .0) (now (a .1 .0)) ds) ≡ true →
-    Made (holding (a .0) (now (a .1 .0)) ds) (late-ack (a .1 .1 .0) (a .1 .1 .1 .0) (a .1 .1 .1 .1 .0) r)
-late-ack-made κs a r s h ds late = (late, h)
+    (ds : List WindowEnd) (used : ℕ) → isLate (a .1 .1 .0) (a .1 .1 .1 .0) (holding (a .0) (now (a .1 .0)) ds used) ≡ true →
+    Made (holding (a .0) (now (a .1 .0)) ds used) (late-ack (a .1 .1 .0) (a .1 .1 .1 .0) (a .1 .1 .1 .1 .0) r)
+late-ack-made κs a r s h ds used late = (late, h)
 
 -- ------------------------------------------------------------------------
 -- Calls that the host hands what its windows' ends have
@@ -95,38 +96,43 @@ late-ack-made κs a r s h ds late = (late, h)
 -- the front ack
 pub ack-made : (κs : Lfts 1) (a : Dens κs ack-kinds.ps) (r : Played) (s : AtExit (endedOf 1 ack-kinds.ps ack-kinds.r) κs) →
     ack-reads.Post κs a r s →
-    (ds : List WindowEnd) (rest : List Ack) →
-    endAt (a .1 .1 .0) (holding (a .0) (now (a .1 .0)) ds) .back ≡ record { term = a .1 .1 .1 .0; index = a .1 .1 .1 .1 .0 .0 } ∷ rest →
-    Made (holding (a .0) (now (a .1 .0)) ds) (ack (a .1 .1 .0) r)
-ack-made κs a r s h ds rest e = rw e h
+    (ds : List WindowEnd) (used : ℕ) (rest : List Ack) →
+    endAt (a .1 .1 .0) (holding (a .0) (now (a .1 .0)) ds used) .back
+    ≡ record { term = a .1 .1 .1 .0; index = a .1 .1 .1 .1 .0 .0 } ∷ rest →
+    Made (holding (a .0) (now (a .1 .0)) ds used) (ack (a .1 .1 .0) r)
+ack-made κs a r s h ds used rest e = rw e h
 
 -- as the report the record's last index
 pub join-made : (κs : Lfts 1) (a : Dens κs join-kinds.ps) (r : Played) (s : AtExit (endedOf 1 join-kinds.ps join-kinds.r) κs) →
     join-reads.Post κs a r s →
-    (ds : List WindowEnd) → endAt (a .1 .1 .0) (holding (a .0) (now (a .1 .0)) ds) .record′ .last ≡ a .1 .1 .1 .0 →
-    Made (holding (a .0) (now (a .1 .0)) ds) (join (a .1 .1 .0) r)
-join-made κs a r s h ds e = rw e h
+    (ds : List WindowEnd) (used : ℕ) → endAt (a .1 .1 .0) (holding (a .0) (now (a .1 .0)) ds used) .record′ .last ≡ a .1 .1 .1 .0 →
+    Made (holding (a .0) (now (a .1 .0)) ds used) (join (a .1 .1 .0) r)
+join-made κs a r s h ds used e = rw e h
 
--- W, a report from each window, any spacing and set of silent windows, and as the report of each that is not silent its record's last index
+-- W, a report from each window, any spacing and set of silent windows, a first term above the greatest used, and as the report of each that
+-- is not silent its record's last index
 pub start-made : (κs : Lfts 2) (a : Dens κs start-kinds.ps) (r : Played) (s : AtExit (endedOf 2 start-kinds.ps start-kinds.r) κs) →
     start-reads.Post κs a r s →
-    (ds : List WindowEnd) → length ds ≡ a .1 .1 .0 → length (now (a .1 .1 .1 .1 .1 .0)) ≡ length ds →
-    ((w : ℕ) → w < length ds → speaks (a .1 .1 .1 .1 .1 .1 .0) w ≡ true → getD (now (a .1 .1 .1 .1 .1 .0)) w 0 ≡ getD (map reportOf ds) w 0) →
-    Made (holding (a .0) (now (a .1 .0)) ds) (start (a .1 .1 .1 .0) (a .1 .1 .1 .1 .0) (a .1 .1 .1 .1 .1 .1 .0) r)
-start-made κs a r s h ds n m e =
-    let right : said (a .1 .1 .1 .1 .1 .1 .0) (now (a .1 .1 .1 .1 .1 .0)) ≡ said (a .1 .1 .1 .1 .1 .1 .0) (map reportOf ds)
-    = said-unread (a .1 .1 .1 .1 .1 .1 .0) _ (map reportOf ds) (m ∙ sym (length-map ds reportOf)) (λ w l. e w (rw m at l)) in
-    rw (n, ← right) h
+    (ds : List WindowEnd) (used : ℕ) → used < a .1 .1 .1 .1 .1 .0 .0 →
+    length ds ≡ a .1 .1 .0 → length (now (a .1 .1 .1 .1 .1 .1 .0)) ≡ length ds →
+    ((w : ℕ) → w < length ds → speaks (a .1 .1 .1 .1 .1 .1 .1 .0) w ≡ true →
+    getD (now (a .1 .1 .1 .1 .1 .1 .0)) w 0 ≡ getD (map reportOf ds) w 0) →
+    Made (holding (a .0) (now (a .1 .0)) ds used)
+    (start (a .1 .1 .1 .0) (a .1 .1 .1 .1 .0) (a .1 .1 .1 .1 .1 .0) (a .1 .1 .1 .1 .1 .1 .1 .0) r)
+start-made κs a r s h ds used above n m e =
+    let right : said (a .1 .1 .1 .1 .1 .1 .1 .0) (now (a .1 .1 .1 .1 .1 .1 .0)) ≡ said (a .1 .1 .1 .1 .1 .1 .1 .0) (map reportOf ds)
+    = said-unread (a .1 .1 .1 .1 .1 .1 .1 .0) _ (map reportOf ds) (m ∙ sym (length-map ds reportOf)) (λ w l. e w (rw m at l)) in
+    (above, rw (n, ← right) h)
 
 -- the first Start, on which demand 3 begins: as the report of each window that is not silent a new record's last index
 pub first-made : (κs : Lfts 2) (a : Dens κs start-kinds.ps) (r : Played) (s : AtExit (endedOf 2 start-kinds.ps start-kinds.r) κs) →
-    start-reads.Post κs a r s → length (now (a .1 .1 .1 .1 .1 .0)) ≡ a .1 .1 .0 →
-    ((w : ℕ) → w < a .1 .1 .0 → speaks (a .1 .1 .1 .1 .1 .1 .0) w ≡ true → getD (now (a .1 .1 .1 .1 .1 .0)) w 0 ≡ 0) →
-    FirstStart (a .0) (now (a .1 .0)) (a .1 .1 .0) (a .1 .1 .1 .0) (a .1 .1 .1 .1 .0) (a .1 .1 .1 .1 .1 .1 .0) r
+    start-reads.Post κs a r s → length (now (a .1 .1 .1 .1 .1 .1 .0)) ≡ a .1 .1 .0 →
+    ((w : ℕ) → w < a .1 .1 .0 → speaks (a .1 .1 .1 .1 .1 .1 .1 .0) w ≡ true → getD (now (a .1 .1 .1 .1 .1 .1 .0)) w 0 ≡ 0) →
+    FirstStart (a .0) (now (a .1 .0)) (a .1 .1 .0) (a .1 .1 .1 .0) (a .1 .1 .1 .1 .0) (a .1 .1 .1 .1 .1 .0) (a .1 .1 .1 .1 .1 .1 .1 .0) r
 first-made κs a r s h n e =
     let zeros : List ℕ = replicate (a .1 .1 .0) 0 in
-    let right : said (a .1 .1 .1 .1 .1 .1 .0) (now (a .1 .1 .1 .1 .1 .0)) ≡ newReports (a .1 .1 .1 .1 .1 .1 .0) (a .1 .1 .0)
-    = said-unread (a .1 .1 .1 .1 .1 .1 .0) _ zeros (n ∙ sym (length-replicate (a .1 .1 .0) 0))
+    let right : said (a .1 .1 .1 .1 .1 .1 .1 .0) (now (a .1 .1 .1 .1 .1 .1 .0)) ≡ newReports (a .1 .1 .1 .1 .1 .1 .1 .0) (a .1 .1 .0)
+    = said-unread (a .1 .1 .1 .1 .1 .1 .1 .0) _ zeros (n ∙ sym (length-replicate (a .1 .1 .0) 0))
     (λ w l t. e w (rw n at l) t ∙ sym (getD-replicate (a .1 .1 .0) w 0 0 (rw n at l))) in
     rw (← right) h
 

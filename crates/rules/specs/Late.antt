@@ -6,6 +6,7 @@ use mathlib.Core.Bool.{true}
 use native.Mathlib.Omega.{arith}
 use lib.ListN.{length, getD}
 use Rattle.journal.specs.Entry.{countOf}
+use Rattle.rules.specs.declared.Term.{Term}
 use Rattle.rules.specs.View.{suspended, WindowView, PlayerView}
 use Rattle.rules.specs.Shape.{shape}
 use Rattle.rules.specs.Window.{isSuspended, Report, silence, atStart, startedBy}
@@ -13,22 +14,23 @@ use Rattle.rules.specs.Rules.{windowAt, joinRule, startRule}
 use Rattle.rules.specs.Join.{joinRule-can}
 use Rattle.rules.specs.Start.{startNext-at, startRule-done}
 
--- A result to be read: Suspended, acknowledged 0 and sent L.
-pub silent-held : (ns : List ℕ) (count limit spacing : ℕ) (reports : List Report) (p : PlayerView) →
-    startRule ns count limit spacing reports p .answer ≡ 0 → (w : ℕ) → w < count → getD reports w silence ≡ silence →
-    windowAt w (startRule ns count limit spacing reports p .next) ≡ atStart 0 (countOf ns) suspended
-silent-held ns count limit spacing reports p done w within quiet =
-    let d = startRule-done ns count limit spacing reports p done in
+-- A result to be read: on the first term, Suspended, acknowledged 0 and sent L.
+pub silent-held : (ns : List ℕ) (count limit spacing : ℕ) (first : Term) (reports : List Report) (p : PlayerView) →
+    startRule ns count limit spacing first reports p .answer ≡ 0 → (w : ℕ) → w < count → getD reports w silence ≡ silence →
+    windowAt w (startRule ns count limit spacing first reports p .next) ≡ atStart first 0 (countOf ns) suspended
+silent-held ns count limit spacing first reports p done w within quiet =
+    let d = startRule-done ns count limit spacing first reports p done in
     ap (windowAt w) (d .next)
-    ∙ startNext-at (countOf ns) limit spacing reports w (omega (arith, d .given .each))
-    ∙ ap (startedBy (countOf ns)) quiet
+    ∙ startNext-at (countOf ns) limit spacing first reports w (omega (arith, d .given .each))
+    ∙ ap (startedBy first (countOf ns)) quiet
 
--- A result to be read: while that is held, a Join is answered 0 at every report up to sent.
-pub silent-joins : (ns : List ℕ) (w l : ℕ) (p : PlayerView) → shape ns p ≡ true → w < length (p .windows) →
-    windowAt w p ≡ atStart 0 l suspended → (r : ℕ) → r ≤ l → joinRule ns w r p .answer ≡ 0
-silent-joins ns w l p shaped within is r most =
+-- A result to be read: while that is held and the term can go up, a Join is answered 0 at every report up to sent.
+pub silent-joins : (ns : List ℕ) (w : ℕ) (first : Term) (l : ℕ) (p : PlayerView) → first .0 < 4294967295 →
+    shape ns p ≡ true → w < length (p .windows) →
+    windowAt w p ≡ atStart first 0 l suspended → (r : ℕ) → r ≤ l → joinRule ns w r p .answer ≡ 0
+silent-joins ns w first l p below shaped within is r most =
     joinRule-can ns w p shaped within r (held (λ v. isSuspended (v .condition) ≡ true) refl)
-    (held (λ v. v .term .0 < 4294967295) (omega arith)) (held (λ v. v .acked ≤ r) (omega arith)) (held (λ v. r ≤ v .sent) most)
+    (held (λ v. v .term .0 < 4294967295) below) (held (λ v. v .acked ≤ r) (omega arith)) (held (λ v. r ≤ v .sent) most)
   where
-    held : (P : WindowView → Type 0) → P (atStart 0 l suspended) → P (windowAt w p)
+    held : (P : WindowView → Type 0) → P (atStart first 0 l suspended) → P (windowAt w p)
     held P = subst⁻¹ P is

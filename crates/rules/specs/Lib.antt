@@ -16,11 +16,13 @@ pub mod Batch
 pub mod Send
 pub mod Written
 pub mod Ack
+pub mod OtherTerm
 pub mod Drop
 pub mod Join
 pub mod Said
 pub mod Start
 pub mod Speaking
+pub mod FirstTerm
 pub mod Late
 pub mod Append
 pub mod Offers

@@ -11,7 +11,7 @@ use Rattle.lists.specs.Cases.{and-left, and-right, and-intro}
 use Rattle.lists.specs.All.{all, queuedIn, heldIn, all-append, all-drop, all-weaken}
 use Rattle.rules.specs.View.{Condition, normal, fetching, completed, suspended, WindowView}
 use Rattle.rules.specs.Shape.{isEmpty, conditionHeld, nextFits, endFits, catchUpFits, suspendedFits}
-use Rattle.rules.specs.Window.{isSuspended, dropped}
+use Rattle.rules.specs.Window.{isSuspended, requeue, dropped}
 use Rattle.rules.specs.Shaped.{WindowShaped}
 
 -- ------------------------------------------------------------------------
@@ -160,6 +160,20 @@ batches-here {v = v} s some = by (v .condition) (s .away)
     by (completed end) e = refl
     by suspended e =
         absurd (none (v .batches) (and-right (isEmpty (v .catchQueue)) _ (and-right (isEmpty (v .normalQueue)) _ e)) some)
+
+-- ------------------------------------------------------------------------
+-- a window of which only the queues and the condition change
+
+-- the term, the indices, the line and the unacknowledged batches as they are
+pub record Untouched (v v′ : WindowView) : Type 0 where
+  pub term : v′ .term ≡ v .term
+  pub acked : v′ .acked ≡ v .acked
+  pub sent : v′ .sent ≡ v .sent
+  pub busy : v′ .busy ≡ v .busy
+  pub batches : v′ .batches ≡ v .batches
+
+pub untouched : {n c : List ℕ} {s : Condition} (v : WindowView) → Untouched v (requeue n c s v)
+untouched v = record { term = refl; acked = refl; sent = refl; busy = refl; batches = refl }
 
 -- ------------------------------------------------------------------------
 -- a longer journal and a later `current` allow no less

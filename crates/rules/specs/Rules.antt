@@ -1,5 +1,5 @@
--- Document 01, "Operations of the player", with document 02's acks, silent windows and ticks: the shape, then the window, then the window's
--- rule. A promise is an equation with one of these.
+-- Document 01, "Operations of the player", with document 02's acks, silent windows, ticks and first term: the shape, then the window, then
+-- the window's rule. A promise is an equation with one of these.
 use Prim.Native.Nat.{ℕ, suc, _+_, min}
 use mathlib.Core.List.{List, [], _∷_, _++_, map}
 use mathlib.Core.Bool.{Bool, true, not, cond, _&&_}
@@ -103,7 +103,8 @@ sendOutput ns w out p =
     cond (eqb (sendRule ns w (length out) p .answer) 0) (sent ++ drop (length sent) out) out
 
 -- ------------------------------------------------------------------------
--- Start: W, the batch limit, the spacing, and from each window its report or silence; what the player held before is not read
+-- Start: W, the batch limit, the spacing, the first term, and from each window its report or silence; what the player held before is not
+-- read
 
 -- a window speaks if the set of silent windows does not have it
 abbrev pub speaks : ℕ → ℕ → Bool
@@ -138,15 +139,19 @@ least l [] = l
 least l (r ∷ []) = r
 least l (r ∷ s ∷ rs) = min r (least l (s ∷ rs))
 
--- W, the batch limit and the journal are in shape, and there are exactly W reports, n being their number
-abbrev pub startFits : List ℕ → ℕ → ℕ → ℕ → Bool
-startFits ns count limit n = countFits count && (limitFits limit && (inShape ns && eqb n count))
+-- the first term is not 0; a term of 0 that is held is in shape all the same
+abbrev pub firstFits : Term → Bool
+firstFits first = leb 1 (first .0)
 
--- 1, also if there are not exactly W reports. 18: the spacing outside its limits. 13: a report above L. `current` is the least report, or L
--- if all windows are silent
-unfoldable pub startRule : List ℕ → (count limit spacing : ℕ) → List Report → PlayerView → Outcome
-startRule ns count limit spacing reports p =
-    cond (not (startFits ns count limit (length reports))) (refuse 1 p)
+-- W, the batch limit, the first term and the journal are in shape, and there are exactly W reports, n being their number
+abbrev pub startFits : List ℕ → (count limit : ℕ) → Term → ℕ → Bool
+startFits ns count limit first n = countFits count && (limitFits limit && (firstFits first && (inShape ns && eqb n count)))
+
+-- 1, also if the first term is 0, or if there are not exactly W reports. 18: the spacing outside its limits. 13: a report above L.
+-- `current` is the least report, or L if all windows are silent
+unfoldable pub startRule : List ℕ → (count limit spacing : ℕ) → Term → List Report → PlayerView → Outcome
+startRule ns count limit spacing first reports p =
+    cond (not (startFits ns count limit first (length reports))) (refuse 1 p)
     (cond (not (spacingFits spacing)) (refuse 18 p)
     (cond (not (all (isStartReport (countOf ns)) reports)) (refuse 13 p)
     (record {
@@ -155,6 +160,6 @@ startRule ns count limit spacing reports p =
         limit = limit;
         spacing = spacing;
         current = least (countOf ns) (spoken reports);
-        windows = map (startedBy (countOf ns)) reports;
+        windows = map (startedBy first (countOf ns)) reports;
       };
     })))

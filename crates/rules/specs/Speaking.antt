@@ -10,10 +10,11 @@ use lib.Dec.{leb}
 use Rattle.journal.specs.Entry.{inShape, countOf}
 use Rattle.lists.specs.Cases.{and-left, and-right}
 use Rattle.lists.specs.All.{all}
+use Rattle.rules.specs.declared.Term.{Term}
 use Rattle.rules.specs.View.{PlayerView}
 use Rattle.rules.specs.Shape.{countFits, limitFits, spacingFits}
 use Rattle.rules.specs.Window.{told, started, startedBy}
-use Rattle.rules.specs.Rules.{Outcome, refuse, said, isStartReport, least, startFits, startRule}
+use Rattle.rules.specs.Rules.{Outcome, refuse, said, isStartReport, least, firstFits, startFits, startRule}
 use Rattle.rules.specs.Said.{said-none, spoken-told}
 
 -- the least of some numbers
@@ -23,14 +24,14 @@ baseLeast (r ∷ []) = r
 baseLeast (r ∷ s ∷ rs) = min r (baseLeast (s ∷ rs))
 
 -- Start of a report from each window
-unfoldable pub baseStart : List ℕ → (count limit spacing : ℕ) → List ℕ → PlayerView → Outcome
-baseStart ns count limit spacing reports p =
-    cond (not (startFits ns count limit (length reports))) (refuse 1 p)
+unfoldable pub baseStart : List ℕ → (count limit spacing : ℕ) → Term → List ℕ → PlayerView → Outcome
+baseStart ns count limit spacing first reports p =
+    cond (not (startFits ns count limit first (length reports))) (refuse 1 p)
     (cond (not (spacingFits spacing)) (refuse 18 p)
     (cond (not (all (λ r. leb r (countOf ns)) reports)) (refuse 13 p)
     (record {
       answer = 0;
-      next = record { limit = limit; spacing = spacing; current = baseLeast reports; windows = map started reports };
+      next = record { limit = limit; spacing = spacing; current = baseLeast reports; windows = map (started first) reports };
     })))
 
 reports-told : (l : ℕ) (rs : List ℕ) → all (isStartReport l) (map told rs) ≡ all (λ r. leb r l) rs
@@ -44,26 +45,27 @@ least-told l [] h = absurd (omega arith)
 least-told l (r ∷ []) h = refl
 least-told l (r ∷ s ∷ rs) h = ap (min r) (least-told l (s ∷ rs) (omega arith))
 
-module _ (ns : List ℕ) (count limit spacing : ℕ) (reports : List ℕ) (p : PlayerView) where
+module _ (ns : List ℕ) (count limit spacing : ℕ) (first : Term) (reports : List ℕ) (p : PlayerView) where
   -- there is a report at least
-  fits-some : startFits ns count limit (length reports) ≡ true → 1 ≤ length reports
+  fits-some : startFits ns count limit first (length reports) ≡ true → 1 ≤ length reports
   fits-some h =
       let n = eqb-true (length reports) count
-      (and-right (inShape ns) _ (and-right (limitFits limit) _ (and-right (countFits count) _ h))) in
+      (and-right (inShape ns) _
+      (and-right (firstFits first) _ (and-right (limitFits limit) _ (and-right (countFits count) _ h)))) in
       omega (arith, leb-true 1 count (and-left (leb 1 count) _ (and-left (countFits count) _ h)))
 
   -- the player that it makes, from a number as `current`
   abbrev begun : ℕ → Outcome
-  begun c = record { answer = 0; next = record { limit = limit; spacing = spacing; current = c; windows = map started reports } }
+  begun c = record { answer = 0; next = record { limit = limit; spacing = spacing; current = c; windows = map (started first) reports } }
 
   -- A result to be read: no window is silent, and each begins from its report.
-  pub startRule-speaking : startRule ns count limit spacing (said 0 reports) p ≡ baseStart ns count limit spacing reports p
+  pub startRule-speaking : startRule ns count limit spacing first (said 0 reports) p ≡ baseStart ns count limit spacing first reports p
   unfolding startRule baseStart
   startRule-speaking =
       rw (said-none reports, length-map reports told, reports-told (countOf ns) reports, spoken-told reports)
-      (rw (map-map (startedBy (countOf ns)) told reports) (by (startFits ns count limit (length reports)) refl))
+      (rw (map-map (startedBy first (countOf ns)) told reports) (by (startFits ns count limit first (length reports)) refl))
     where
-      by : (s : Bool) → startFits ns count limit (length reports) ≡ s →
+      by : (s : Bool) → startFits ns count limit first (length reports) ≡ s →
           cond (not s) (refuse 1 p)
           (cond (not (spacingFits spacing)) (refuse 18 p)
           (cond (not (all (λ r. leb r (countOf ns)) reports)) (refuse 13 p) (begun (least (countOf ns) reports))))

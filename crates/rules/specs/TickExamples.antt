@@ -116,7 +116,8 @@ sentTick batches s = window 0 2 false batches [] [] s
 
 -- what Start answers of one window, to a count, a spacing and a report
 abbrev startAnswer : (count spacing report : ℕ) → ℕ
-startAnswer count spacing report = startRule (numbersOf three) count 2 spacing (told report ∷ []) (playerWith 3 quiet) .answer
+startAnswer count spacing report =
+    startRule (numbersOf three) count 2 spacing (record { 0 = 1 }) (told report ∷ []) (playerWith 3 quiet) .answer
 
 -- 1 to 65,535; 1 comes before 18, and 18 before 13
 pub record SpacingAtStart : Type 0 where

@@ -11,9 +11,9 @@ use Rattle.journal.specs.Entry.{inShape, entriesOf}
 use Rattle.journal.specs.Own.{own, isOwn}
 use Rattle.record.specs.Record.{newRecord, takeAll}
 use Rattle.rules.specs.View.{PlayerView}
-use Rattle.delivery.specs.World.{Side, World, sideAt, opened, replies}
+use Rattle.delivery.specs.World.{Side, World, sideAt, replies}
 use Rattle.delivery.specs.World as W
-use Rattle.delivery.specs.Statement.{Leading, firstStart}
+use Rattle.delivery.specs.Statement.{Leading, firstWorld}
 use Rattle.delivery.specs.Demand3.{demand-3}
 use Rattle.script_line.specs.declared.Step.{Step}
 use Rattle.script.specs.declared.Stage.{Stage}
@@ -21,8 +21,8 @@ use Rattle.script.specs.declared.Reply.{Reply}
 use Rattle.script.specs.declared.Stepped.{Stepped}
 use Rattle.script.specs.Stage.{worldOf, forgotten, stepIn, stepsIn, replyOf, recordIn}
 use Rattle.script.specs.Promise.{Plays}
-use Rattle.script.specs.Opening.{runSpacing, openedBy, openedBy-journal, openedBy-done, openedBy-world}
-use Rattle.script.specs.Worlds.{worldOf-forgotten, Staged, worldOf-side}
+use Rattle.script.specs.Opening.{runSpacing, runFirst, openedBy, openedBy-journal, openedBy-done, openedBy-world}
+use Rattle.script.specs.Worlds.{Staged, worldOf-side}
 use Rattle.script.specs.Room.{Roomy, roomy-step, roomy-opened}
 use Rattle.script.specs.Tickless.{taken-own}
 use Rattle.script.specs.Shown.{forgotten-at, shown-few, shown-plays}
@@ -61,9 +61,9 @@ script-follows ns e {s = s} wd h (more {st = st} r k rest) =
 -- from an opened stage
 
 -- the replies, and each window's record, are those of a run of the world
-pub record Runs (first : World) (sts : List Step) (rs : List Reply) (t : Stage) : Type 0 where
-  pub replied : map replyOf rs ≡ replies first (stepsIn first sts)
-  pub records : (w : ℕ) → recordIn w t ≡ sideAt w (W.run first (stepsIn first sts)) .record′
+pub record Runs (wd₀ : World) (sts : List Step) (rs : List Reply) (t : Stage) : Type 0 where
+  pub replied : map replyOf rs ≡ replies wd₀ (stepsIn wd₀ sts)
+  pub records : (w : ℕ) → recordIn w t ≡ sideAt w (W.run wd₀ (stepsIn wd₀ sts)) .record′
 
 -- the record of window w is that of a window which has taken a leading part of its own entries, with ticks among them or without
 pub record LeadingRecord (j : List Entry) (w : ℕ) (s : Stage) : Type 0 where
@@ -78,18 +78,18 @@ pub record FoldedRecord (j : List Entry) (w : ℕ) (s : Stage) : Type 0 where
 
 module _ (ns : List ℕ) (count : ℕ) (before : PlayerView) (ok : openedBy ns count .ok ≡ true) (t : Stage) (sts : List Step) (rs : List Reply)
     (script : Script ns (openedBy ns count .stage) sts rs t) where
-  abbrev first : World
-  first = opened (entriesOf ns) (firstStart before (entriesOf ns) count 2 runSpacing 0)
+  abbrev wd₀ : World
+  wd₀ = firstWorld before (entriesOf ns) count 2 runSpacing runFirst 0
 
   abbrev last : World
-  last = W.run first (stepsIn first sts)
+  last = W.run wd₀ (stepsIn wd₀ sts)
 
-  followed : Follows ns first sts rs t
+  followed : Follows ns wd₀ sts rs t
   followed =
-      script-follows ns (openedBy-journal ns count before ok) first
+      script-follows ns (openedBy-journal ns count before ok) wd₀
       (record {
-        world = sym (worldOf-forgotten (entriesOf ns) (openedBy ns count .stage)) ∙ ap forgotten (openedBy-world ns count before ok);
-        roomy = roomy-opened before (entriesOf ns) count runSpacing (openedBy-done ns count before ok);
+        world = openedBy-world ns count before ok;
+        roomy = roomy-opened before (entriesOf ns) count runSpacing runFirst (openedBy-done ns count before ok);
         records = refl;
         lines = refl;
       })
@@ -97,7 +97,7 @@ module _ (ns : List ℕ) (count : ℕ) (before : PlayerView) (ok : openedBy ns c
 
   -- A result to be read: what the code's steps reply along a script, and the records at its end, are those of the world's steps from the
   -- world after a first Start, whatever a player held before
-  pub script-runs : Runs first sts rs t
+  pub script-runs : Runs wd₀ sts rs t
   script-runs =
       let end = followed .shows in
       let held : Staged t = record {
@@ -115,7 +115,7 @@ module _ (ns : List ℕ) (count : ℕ) (before : PlayerView) (ok : openedBy ns c
   unfolding worldOf forgotten
   leading-at w below =
       subst⁻¹ (λ j. Leading j w (sideAt w last)) (ap (λ x. x .journal) (followed .shows .world))
-      (demand-3 before (entriesOf ns) count 2 runSpacing 0 (stepsIn first sts) (openedBy-done ns count before ok) .leading w below)
+      (demand-3 before (entriesOf ns) count 2 runSpacing runFirst 0 (stepsIn wd₀ sts) (openedBy-done ns count before ok) .leading w below)
 
   -- A result to be read: whatever the script, each window's record is a leading part's
   pub script-delivers : (w : ℕ) → w < count → LeadingRecord (entriesOf ns) w t
@@ -127,7 +127,7 @@ module _ (ns : List ℕ) (count : ℕ) (before : PlayerView) (ok : openedBy ns c
   script-folds short w below =
       let leading = leading-at w below in
       let done = openedBy-done ns count before ok in
-      let whole = keep-all (isOwn w) _ (taken-own before (entriesOf ns) count runSpacing done short sts w below) in
+      let whole = keep-all (isOwn w) _ (taken-own before (entriesOf ns) count runSpacing runFirst done short sts w below) in
       record {
         k = leading .k;
         folded = script-runs .records w ∙ leading .folded ∙ ap (λ x. takeAll x newRecord) (sym whole ∙ leading .list);

@@ -14,10 +14,11 @@ use Rattle.journal.specs.declared.Entry.{Entry}
 use Rattle.journal.specs.Entry.{countOf, inShape, entriesOf}
 use Rattle.journal.specs.EntryLaws.{numbersOf-entriesOf}
 use Rattle.record.specs.Record.{newRecord}
+use Rattle.rules.specs.declared.Term.{Term}
 use Rattle.rules.specs.View.{WindowView, PlayerView}
 use Rattle.rules.specs.Shape.{limitFits, spacingFits}
 use Rattle.rules.specs.Window.{Report, startedBy}
-use Rattle.rules.specs.Rules.{Outcome, refuse, said, isStartReport, startFits, startRule}
+use Rattle.rules.specs.Rules.{Outcome, refuse, said, isStartReport, firstFits, startFits, startRule}
 use Rattle.rules.specs.Offers.{startNext, startRule-done}
 use Rattle.window.specs.Promise.{numberOf}
 use Rattle.player.specs.declared.Player.{Player}
@@ -26,11 +27,11 @@ use Rattle.player.specs.View.{playerOf}
 use Rattle.player.specs.Promise.{freshPlayer, Starts}
 use Rattle.operations.specs.Starting.{freshPlayer-shown}
 use Rattle.delivery.specs.World.{Side, newSide, opened}
-use Rattle.delivery.specs.Statement.{newReports, firstStart}
+use Rattle.delivery.specs.Statement.{newReports, firstStart, firstWorld}
 use Rattle.script.specs.declared.Stage.{Stage}
 use Rattle.script.specs.declared.Opened.{Opened}
 use Rattle.script.specs.Line.{freshLine, sentIn, acksIn}
-use Rattle.script.specs.Stage.{sidesOf, worldWith, worldOf}
+use Rattle.script.specs.Stage.{sidesOf, worldWith, worldOf, forget, forgotten}
 
 -- new records and empty lines round a player
 abbrev pub aroundPlayer : Player → Stage
@@ -40,20 +41,23 @@ aroundPlayer p = record { player = p; records = replicate 16 newRecord; lines = 
 abbrev pub noPlayer : PlayerView
 noPlayer = record { limit = 0; spacing = 0; current = 0; windows = [] }
 
--- the spacing that the runner gives
+-- the spacing and the first term that the runner gives
 abbrev pub runSpacing : ℕ
 runSpacing = 65535
 
--- the answer to a first Start with the batch limit 2 and that spacing, at which no window is silent
+abbrev pub runFirst : Term
+runFirst = record { 0 = 1 }
+
+-- the answer to a first Start with the batch limit 2 and these, at which no window is silent
 unfoldable pub openingAnswer : List ℕ → ℕ → ℕ
-openingAnswer ns count = startRule ns count 2 runSpacing (newReports 0 count) noPlayer .answer
+openingAnswer ns count = startRule ns count 2 runSpacing runFirst (newReports 0 count) noPlayer .answer
 
 -- What opening gives: where that Start is answered 0, a stage with the fresh player that it makes; where it is refused, one with no windows
 abbrev pub openedBy : List ℕ → ℕ → Opened
 openedBy ns count =
     let ok : Bool = eqb (openingAnswer ns count) 0 in
-    let fresh : Player = freshPlayer (countOf ns) count 2 runSpacing (newReports 0 count) in
-    record { ok = ok; stage = aroundPlayer (cond ok fresh (freshPlayer 0 0 0 0 [])) }
+    let fresh : Player = freshPlayer (countOf ns) count 2 runSpacing runFirst (newReports 0 count) in
+    record { ok = ok; stage = aroundPlayer (cond ok fresh (freshPlayer 0 0 0 0 runFirst [])) }
 
 -- ------------------------------------------------------------------------
 -- sidesOf
@@ -65,16 +69,21 @@ sidesOf-new n [] h = refl
 sidesOf-new zero (v ∷ vs) h = absurd (omega arith)
 sidesOf-new (suc n) (v ∷ vs) h = ap (λ ps. newSide v ∷ ps) (sidesOf-new n vs (omega arith))
 
+-- new sides have no history
+newSide-forget : (vs : List WindowView) → map forget (map newSide vs) ≡ map newSide vs
+newSide-forget [] = refl
+newSide-forget (v ∷ vs) = ap (λ ps. newSide v ∷ ps) (newSide-forget vs)
+
 -- ------------------------------------------------------------------------
 -- startRule
 
 -- what the player held before is not read
-startRule-answer : (ns : List ℕ) (count limit spacing : ℕ) (reports : List Report) (p q : PlayerView) →
-    startRule ns count limit spacing reports p .answer ≡ startRule ns count limit spacing reports q .answer
+startRule-answer : (ns : List ℕ) (count limit spacing : ℕ) (first : Term) (reports : List Report) (p q : PlayerView) →
+    startRule ns count limit spacing first reports p .answer ≡ startRule ns count limit spacing first reports q .answer
 unfolding startRule
-startRule-answer ns count limit spacing reports p q =
-    go (record { answer = 0; next = startNext (countOf ns) limit spacing reports })
-    (not (startFits ns count limit (length reports)))
+startRule-answer ns count limit spacing first reports p q =
+    go (record { answer = 0; next = startNext (countOf ns) limit spacing first reports })
+    (not (startFits ns count limit first (length reports)))
     (not (spacingFits spacing))
     (not (all (isStartReport (countOf ns)) reports))
   where
@@ -87,15 +96,17 @@ startRule-answer ns count limit spacing reports p q =
     go o false false false = refl
 
 -- more windows than 16 are refused
-startRule-over : (ns : List ℕ) (count limit spacing : ℕ) (reports : List Report) (p : PlayerView) → 16 < count →
-    startRule ns count limit spacing reports p ≡ refuse 1 p
+startRule-over : (ns : List ℕ) (count limit spacing : ℕ) (first : Term) (reports : List Report) (p : PlayerView) → 16 < count →
+    startRule ns count limit spacing first reports p ≡ refuse 1 p
 unfolding startRule
-startRule-over ns count limit spacing reports p h = go (leb 1 count)
+startRule-over ns count limit spacing first reports p h = go (leb 1 count)
   where
-    go : (b : Bool) → cond (not ((b && leb count 16) && (limitFits limit && (inShape ns && eqb (length reports) count)))) (refuse 1 p)
+    go : (b : Bool) →
+        cond (not ((b && leb count 16) && (limitFits limit && (firstFits first && (inShape ns && eqb (length reports) count)))))
+        (refuse 1 p)
         (cond (not (spacingFits spacing)) (refuse 18 p)
         (cond (not (all (isStartReport (countOf ns)) reports)) (refuse 13 p)
-        (record { answer = 0; next = startNext (countOf ns) limit spacing reports })))
+        (record { answer = 0; next = startNext (countOf ns) limit spacing first reports })))
         ≡ refuse 1 p
     go true = rw (lt-leb count 16 h)
     go false = refl
@@ -116,16 +127,17 @@ module _ (ns : List ℕ) (count : ℕ) where
   -- more windows than 16
   answer-over : 16 < count → openingAnswer ns count ≡ 1
   unfolding openingAnswer
-  answer-over h = ap (λ o. o .answer) (startRule-over ns count 2 runSpacing (newReports 0 count) noPlayer h)
+  answer-over h = ap (λ o. o .answer) (startRule-over ns count 2 runSpacing runFirst (newReports 0 count) noPlayer h)
 
-  pub openedBy-over : (p : Player) → p ≡ freshPlayer 0 0 0 0 [] → 16 < count →
+  pub openedBy-over : (p : Player) → p ≡ freshPlayer 0 0 0 0 runFirst [] → 16 < count →
       record { ok = false; stage = aroundPlayer p } ≡ openedBy ns count
   openedBy-over p b h = rw (answer-over h, b)
 
   -- by what Start gives
-  pub openedBy-start : (p : Player) → p ≡ freshPlayer 0 0 0 0 [] → (r : Played) (reports : List ℕ) → count ≤ 16 →
+  pub openedBy-start : (p : Player) → p ≡ freshPlayer 0 0 0 0 runFirst [] → (r : Played) (reports : List ℕ) → count ≤ 16 →
       reports ≡ take {A = ℕ} count (replicate 16 0) →
-      Starts p (countOf ns) count 2 runSpacing (said 0 reports) r (startRule ns count 2 runSpacing (said 0 reports) (playerOf p)) →
+      Starts p (countOf ns) count 2 runSpacing runFirst (said 0 reports) r
+      (startRule ns count 2 runSpacing runFirst (said 0 reports) (playerOf p)) →
       record { ok = eqb (numberOf (r .answer)) 0; stage = aroundPlayer (r .player) } ≡ openedBy ns count
   unfolding openingAnswer
   openedBy-start p b r reports h e k =
@@ -136,48 +148,51 @@ module _ (ns : List ℕ) (count : ℕ) where
       zeros = ap (said 0) (e ∙ replicate-take count 16 0 h)
 
       answer : numberOf (r .answer) ≡ openingAnswer ns count
-      answer = k .answer ∙ startRule-answer ns count 2 runSpacing (said 0 reports) (playerOf p) noPlayer
-          ∙ ap (λ x. startRule ns count 2 runSpacing x noPlayer .answer) zeros
+      answer = k .answer ∙ startRule-answer ns count 2 runSpacing runFirst (said 0 reports) (playerOf p) noPlayer
+          ∙ ap (λ x. startRule ns count 2 runSpacing runFirst x noPlayer .answer) zeros
 
       by : (ok : Bool) → eqb (numberOf (r .answer)) 0 ≡ ok →
-          r .player ≡ cond ok (freshPlayer (countOf ns) count 2 runSpacing (newReports 0 count)) (freshPlayer 0 0 0 0 [])
-      by true z = k .fresh (sym (k .answer) ∙ eqb-true _ _ z) ∙ ap (freshPlayer (countOf ns) count 2 runSpacing) zeros
+          r .player ≡ cond ok (freshPlayer (countOf ns) count 2 runSpacing runFirst (newReports 0 count)) (freshPlayer 0 0 0 0 runFirst [])
+      by true z = k .fresh (sym (k .answer) ∙ eqb-true _ _ z) ∙ ap (freshPlayer (countOf ns) count 2 runSpacing runFirst) zeros
       by false z = k .unchanged (λ n. eqb-false _ _ z (k .answer ∙ n)) ∙ b
 
   -- ------------------------------------------------------------------------
   -- an opened stage
 
   module _ (before : PlayerView) (ok : openedBy ns count .ok ≡ true) where
-    first-answer : startRule ns count 2 runSpacing (newReports 0 count) before .answer ≡ 0
+    first-answer : startRule ns count 2 runSpacing runFirst (newReports 0 count) before .answer ≡ 0
     unfolding openingAnswer
-    first-answer = startRule-answer ns count 2 runSpacing (newReports 0 count) before noPlayer ∙ eqb-true _ _ ok
+    first-answer = startRule-answer ns count 2 runSpacing runFirst (newReports 0 count) before noPlayer ∙ eqb-true _ _ ok
 
     pub openedBy-journal : inShape ns ≡ true
-    openedBy-journal = startRule-done ns count 2 runSpacing (newReports 0 count) before first-answer .given .journal
+    openedBy-journal = startRule-done ns count 2 runSpacing runFirst (newReports 0 count) before first-answer .given .journal
 
-    numbers : firstStart before (entriesOf ns) count 2 runSpacing 0 ≡ startRule ns count 2 runSpacing (newReports 0 count) before
+    numbers : firstStart before (entriesOf ns) count 2 runSpacing runFirst 0
+        ≡ startRule ns count 2 runSpacing runFirst (newReports 0 count) before
     numbers =
-        ap (λ x. startRule x count 2 runSpacing (newReports 0 count) before)
+        ap (λ x. startRule x count 2 runSpacing runFirst (newReports 0 count) before)
         (numbersOf-entriesOf ns (eqb-true _ _ (and-left _ _ openedBy-journal)))
 
     -- it is a first Start of demand 3, answered 0
-    pub openedBy-done : firstStart before (entriesOf ns) count 2 runSpacing 0 .answer ≡ 0
+    pub openedBy-done : firstStart before (entriesOf ns) count 2 runSpacing runFirst 0 .answer ≡ 0
     openedBy-done = ap (λ o. o .answer) numbers ∙ first-answer
 
-    -- A result to be read: the stage shows the world after that Start, whatever a player held before
+    -- A result to be read: the stage shows the world after that Start, but for the history, whatever a player held before
     pub openedBy-world : worldOf (entriesOf ns) (openedBy ns count .stage)
-        ≡ opened (entriesOf ns) (firstStart before (entriesOf ns) count 2 runSpacing 0)
-    unfolding worldOf opened
+        ≡ forgotten (firstWorld before (entriesOf ns) count 2 runSpacing runFirst 0)
+    unfolding worldOf opened forgotten
     openedBy-world =
         let j : List Entry = entriesOf ns in
         let l : ℕ = countOf ns in
         let zeros : List Report = newReports 0 count in
-        let d = startRule-done ns count 2 runSpacing zeros before first-answer in
+        let d = startRule-done ns count 2 runSpacing runFirst zeros before first-answer in
         let around : PlayerView → List Side = λ q. sidesOf (q .windows) (replicate 16 newRecord) (replicate 16 freshLine) in
         rw ok
         (ap (λ q. worldWith j q (around q))
-        (freshPlayer-shown l count 2 runSpacing zeros (d .given .each))
-        ∙ ap (worldWith j (startNext l 2 runSpacing zeros))
-        (sidesOf-new 16 (map (startedBy l) zeros) (rw (length-map zeros (startedBy l), d .given .each) (d .given .most)))
+        (freshPlayer-shown l count 2 runSpacing runFirst zeros (d .given .each))
+        ∙ ap (worldWith j (startNext l 2 runSpacing runFirst zeros))
+        (sidesOf-new 16 (map (startedBy runFirst l) zeros) (rw (length-map zeros (startedBy runFirst l), d .given .each) (d .given .most)))
         ∙ ap (λ q. worldWith j q (map newSide (q .windows)))
-        (sym (ap (λ o. o .next) numbers ∙ d .next)))
+        (sym (ap (λ o. o .next) numbers ∙ d .next))
+        ∙ ap (worldWith j (firstStart before j count 2 runSpacing runFirst 0 .next))
+        (sym (newSide-forget (firstStart before j count 2 runSpacing runFirst 0 .next .windows))))

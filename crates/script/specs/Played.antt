@@ -21,7 +21,7 @@ use Rattle.player.specs.declared.Played.{Played}
 use Rattle.player.specs.View.{playerOf}
 use Rattle.player.specs.Promise.{Meets}
 use Rattle.window.specs.Promise.{numberOf}
-use Rattle.delivery.specs.World.{World, cleared}
+use Rattle.delivery.specs.World.{World, rejoined}
 use Rattle.delivery.specs.Stepped.{called-then}
 use Rattle.script_line.specs.declared.Step.{Step}
 use Rattle.script_line.specs.declared.Verb.{Verb}
@@ -135,7 +135,7 @@ module _ (ns : List ℕ) (s : Stage) (h : Staged s) (e : inShape ns ≡ true) wh
       let some : 0 < lineIn w s .acks .len = pos-of-ne-zero (eqb-false _ _ has) in
       refused-steps ns s h e _ r _ (changed w (withoutAck ns s h e w some)) (ack-calls ns s h e w some) k n
   step-refuses (At Drop w) r has k n = refused-steps ns s h e _ r _ (λ x. x) (drop-calls ns s h e w ∙ called-then _ wd) k n
-  step-refuses (At Join w) r has k n = refused-steps ns s h e _ r _ (changed w cleared) (join-calls ns s h e w) k n
+  step-refuses (At Join w) r has k n = refused-steps ns s h e _ r _ (rejoined w) (join-calls ns s h e w) k n
   step-refuses (At Take w) r has k n = absurd (n (k .answer))
 
   step-does : (st still : Step) (r : Played) (out : List ℕ) (y : Settled) → lacks (slot st) st ≡ false →

@@ -15,12 +15,12 @@ use Rattle.journal.specs.Entry.{numbersOf}
 use Rattle.rules.specs.declared.Term.{Term}
 use Rattle.rules.specs.View.{WindowView, PlayerView, noWindow}
 use Rattle.rules.specs.Window.{isSuspended, wanted, mainAt, batchOf, acknowledged}
-use Rattle.rules.specs.Offers.{mainAt-either, mainRule-cases, startRule-done, fetched-batches, batchOf-most, batchOf-untouched}
+use Rattle.rules.specs.Offers.{mainAt-either, mainRule-cases, startRule-done, fetched-untouched, batchOf-most, batchOf-untouched}
 use Rattle.rules.specs.Offers.{SentOut, launched-is, acknowledged-oldest}
 use Rattle.delivery.specs.World.{Sent, Ack, Side, World, noSide, sideAt, numbersIn, playerIn, withView, withLines, withPlayer, withSide}
 use Rattle.delivery.specs.World.{onLine, takeFront, newSide, opened}
 use Rattle.delivery.specs.World as W
-use Rattle.delivery.specs.Statement.{newReports, firstStart}
+use Rattle.delivery.specs.Statement.{newReports, firstStart, firstWorld}
 use Rattle.delivery.specs.Invariant.{backIndices, endsOf, Inv, Reached}
 use Rattle.delivery.specs.Lines.{endsOf-append, onLine-ends, unacked-none}
 use Rattle.delivery.specs.KeepSend.{launchedSide}
@@ -174,7 +174,7 @@ scripted (W.ack w) = true
 scripted (W.late-ack w t i) = false
 scripted (W.drop w) = true
 scripted (W.join w) = true
-scripted (W.start b e silent) = false
+scripted (W.start b e first silent) = false
 scripted (W.append e) = false
 
 pub stepIn-scripted : (wd : World) (s : Step) → scripted (stepIn wd s) ≡ true
@@ -194,7 +194,7 @@ worked-roomy j c limit w s reply p p′ script few inv r (caught t i is d e) =
     rw e
     (record {
       pairs = r .pairs;
-      unacked = λ h. fetched-batches (wanted j w i (p .view)) i (d .upto) (p .view) ∙ r .unacked (ap isSuspended (d .was));
+      unacked = λ h. fetched-untouched (wanted j w i (p .view)) i (d .upto) (p .view) .batches ∙ r .unacked (ap isSuspended (d .was));
       batches = r .batches;
     })
 worked-roomy j c limit w s reply p p′ script few inv r (written t is d e) =
@@ -235,8 +235,10 @@ module _ (wd : World) (s : W.Step) (is : scripted s ≡ true) (r : Roomy wd) whe
       let q = r .each v l in
       after-side v _ _ l e (record { pairs = q .pairs; unacked = λ h. absurd (true≢false h); batches = q .batches })
   roomy-facts (joining v same done l away e shaped) =
-      after-side v _ _ l e (record { pairs = none; unacked = λ h. r .reached .each v l .unacked .noBatches away; batches = omega arith })
-  roomy-facts (starting b e silent same done k) = absurd (true≢false (sym is ∙ ap scripted same))
+      subst⁻¹ After e
+      (after-side v _ _ l refl
+      (record { pairs = none; unacked = λ h. r .reached .each v l .unacked .noBatches away; batches = omega arith }))
+  roomy-facts (starting b e first silent same done k) = absurd (true≢false (sym is ∙ ap scripted same))
   roomy-facts (appending x same done few e) = absurd (true≢false (sym is ∙ ap scripted same))
 
 -- ------------------------------------------------------------------------
@@ -262,8 +264,8 @@ step-keeps wd s is (working quiet (stays idle e)) = subst⁻¹ (Keeps wd) e (rec
 step-keeps wd s is (working quiet (mains i same done m)) = subst⁻¹ (λ s. Keeps wd (W.step s wd .world)) same (main-keeps wd i)
 step-keeps wd s is (working quiet (works v l p work e shaped)) = subst⁻¹ (Keeps wd) e (side-keeps wd v p)
 step-keeps wd s is (dropping v same done l e shaped) = subst⁻¹ (Keeps wd) e (side-keeps wd v _)
-step-keeps wd s is (joining v same done l away e shaped) = subst⁻¹ (Keeps wd) e (side-keeps wd v _)
-step-keeps wd s is (starting b e silent same done k) = absurd (true≢false (sym is ∙ ap scripted same))
+step-keeps wd s is (joining v same done l away e shaped) = subst⁻¹ (Keeps wd) e (record { journal = refl; limit = refl; spacing = refl })
+step-keeps wd s is (starting b e first silent same done k) = absurd (true≢false (sym is ∙ ap scripted same))
 step-keeps wd s is (appending x same done few e) = absurd (true≢false (sym is ∙ ap scripted same))
 
 -- ------------------------------------------------------------------------
@@ -289,24 +291,24 @@ unfolding endsOf
 roomy-new v inv = record { pairs = none; unacked = λ h. unacked-none (inv .unacked); batches = omega arith }
 
 -- the opening: a reachable world with the batch limit 2 and empty lines
-pub roomy-opened : (before : PlayerView) (j : List Entry) (count spacing : ℕ) → firstStart before j count 2 spacing 0 .answer ≡ 0 →
-    Roomy (opened j (firstStart before j count 2 spacing 0))
+pub roomy-opened : (before : PlayerView) (j : List Entry) (count spacing : ℕ) (first : Term) →
+    firstStart before j count 2 spacing first 0 .answer ≡ 0 → Roomy (firstWorld before j count 2 spacing first 0)
 unfolding opened
-roomy-opened before j count spacing done = record {
-  reached = opened-reached before j count 2 spacing 0 done;
+roomy-opened before j count spacing first done = record {
+  reached = opened-reached before j count 2 spacing first 0 done;
   limit =
-      let d : firstStart before j count 2 spacing 0 .next .limit ≡ 2
-      = ap (λ q. q .limit) (startRule-done (numbersOf j) count 2 spacing (newReports 0 count) before done .next) in
+      let d : firstStart before j count 2 spacing first 0 .next .limit ≡ 2
+      = ap (λ q. q .limit) (startRule-done (numbersOf j) count 2 spacing first (newReports 0 count) before done .next) in
       rw d (omega arith);
   each = λ w h.
-      let is = List·getD-map newSide (firstStart before j count 2 spacing 0 .next .windows) w noWindow in
-      subst⁻¹ RoomySide is (roomy-new _ (subst (Inv j _ w) is (opened-reached before j count 2 spacing 0 done .each w h)));
+      let is = List·getD-map newSide (firstStart before j count 2 spacing first 0 .next .windows) w noWindow in
+      subst⁻¹ RoomySide is (roomy-new _ (subst (Inv j _ w) is (opened-reached before j count 2 spacing first 0 done .each w h)));
 }
 
 -- in every world that a script reaches from there, each line has room
-pub room : (before : PlayerView) (j : List Entry) (count spacing : ℕ) → firstStart before j count 2 spacing 0 .answer ≡ 0 →
-    (ss : List Step) →
-    let first : World = opened j (firstStart before j count 2 spacing 0) in
-    Roomy (W.run first (stepsIn first ss))
-room before j count spacing done ss =
-    roomy-run (opened j (firstStart before j count 2 spacing 0)) ss (roomy-opened before j count spacing done)
+pub room : (before : PlayerView) (j : List Entry) (count spacing : ℕ) (first : Term) →
+    firstStart before j count 2 spacing first 0 .answer ≡ 0 → (ss : List Step) →
+    let wd : World = firstWorld before j count 2 spacing first 0 in
+    Roomy (W.run wd (stepsIn wd ss))
+room before j count spacing first done ss =
+    roomy-run (firstWorld before j count 2 spacing first 0) ss (roomy-opened before j count spacing first done)

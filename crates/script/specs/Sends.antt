@@ -98,7 +98,7 @@ module _ (ns : List ℕ) (s : Stage) (h : Staged s) (e : inShape ns ≡ true) (w
       = ap (λ out. map worldSent (batchShown out t)) written
       ∙ sendOutput-shown ns w player t z
       ∙ ap₂ (onLine j w) (sym (ap (λ p. p .view .term) (worldOf-side j s h w))) (sym (ap (batchAt w) (worldOf-player j s h))) in
-      turned-steps j s h (At Send w) w r _ x withBatch send-calls k done (own .is)
+      turned-steps j s h (At Send w) w r _ x withBatch (changed w withBatch) (λ y. refl) send-calls k done (own .is)
       (record {
         within = omega (arith, d .within, playerOf-count (s .player));
         view = _;

@@ -18,7 +18,7 @@ use Rattle.player.specs.View.{playerOf}
 use Rattle.player.specs.Promise.{Meets}
 use Rattle.window.specs.Promise.{numberOf}
 use Rattle.delivery.specs.World.{Side, World, sideAt, numbersIn, playerIn, withView, withLines, answered, calledThen}
-use Rattle.delivery.specs.World.{takeAtLine, ackAtLine, cleared}
+use Rattle.delivery.specs.World.{takeAtLine, ackAtLine, cleared, rejoined}
 use Rattle.delivery.specs.World as W
 use Rattle.delivery.specs.Stepped.{calledThen-done}
 use Rattle.script_line.specs.declared.Step.{Step}
@@ -108,15 +108,16 @@ module _ (j : List Entry) (s : Stage) (h : Staged s) where
   -- ------------------------------------------------------------------------
   -- a call answered 0 that changes a line
 
-  -- the stage shows what the world's change gives
-  pub turned-steps : (st : Step) (w : ℕ) (r : Played) (o : Outcome) (x : Settled) (g : Side → Side) →
-      W.step (stepIn wd st) wd ≡ calledThen o (changed w g) wd → Meets (s .player) r o → numberOf (r .answer) ≡ 0 →
+  -- the stage shows what the world's change gives: f makes g of window w's side, and changes nothing else but history
+  pub turned-steps : (st : Step) (w : ℕ) (r : Played) (o : Outcome) (x : Settled) (g : Side → Side) (f : World → World) →
+      ((y : World) → forgotten (f y) ≡ forgotten (changed w g y)) → W.step (stepIn wd st) wd ≡ calledThen o f wd →
+      Meets (s .player) r o → numberOf (r .answer) ≡ 0 →
       x ≡ settledAs (slotIn w s) (x .line) → Turned j s w o g (x .line) → Steps j s st (storedBy s w (r .player) x)
-  turned-steps st w r o x g is k zero own d =
+  turned-steps st w r o x g f same is k zero own d =
       rw own
       (steps-as j s st _ _ is (ap answered (sym zero ∙ k .answer))
       (worldOf-turned j s h w (r .player) (o .next) (d .view) (x .line) g (d .within) (k .next) (d .next) (d .side)
-      ∙ sym (ap forgotten (calledThen-done o (changed w g) wd (sym (k .answer) ∙ zero)))))
+      ∙ sym (ap forgotten (calledThen-done o f wd (sym (k .answer) ∙ zero)) ∙ same (W.withPlayer (o .next) wd))))
 
 -- ------------------------------------------------------------------------
 -- Join, Ack
@@ -128,21 +129,21 @@ module _ (ns : List ℕ) (s : Stage) (h : Staged s) (e : inShape ns ≡ true) (w
   abbrev player : PlayerView
   player = playerOf (s .player)
 
-  pub join-calls : W.step (stepIn here (At Join w)) here
-      ≡ calledThen (outcomeAt ns (s .player) (slotIn w s) (At Join w)) (changed w cleared) here
+  pub join-calls : W.step (stepIn here (At Join w)) here ≡ calledThen (outcomeAt ns (s .player) (slotIn w s) (At Join w)) (rejoined w) here
   unfolding W.step
   join-calls =
-      ap (λ own. calledThen (joinRule (numbersIn here) w (own .last .0) (playerIn here)) (changed w cleared) here)
+      ap (λ own. calledThen (joinRule (numbersIn here) w (own .last .0) (playerIn here)) (rejoined w) here)
       (record-here (entriesOf ns) s h w)
-      ∙ ap (λ o. calledThen o (changed w cleared) here) (rule-here ns s h e (λ n p. joinRule n w (recordIn w s .last .0) p))
+      ∙ ap (λ o. calledThen o (rejoined w) here) (rule-here ns s h e (λ n p. joinRule n w (recordIn w s .last .0) p))
 
   pub join-steps : (r : Played) (x : Settled) → Meets (s .player) r (outcomeAt ns (s .player) (slotIn w s) (At Join w)) →
       numberOf (r .answer) ≡ 0 → x ≡ settledAs (slotIn w s) freshLine → Steps (entriesOf ns) s (At Join w) (storedBy s w (r .player) x)
-  unfolding sentIn acksIn front
+  unfolding sentIn acksIn front forgotten
   join-steps r x k zero own =
       let d = joinRule-done ns w (recordIn w s .last .0) player (sym (k .answer) ∙ zero) in
       rw own
-      (turned-steps (entriesOf ns) s h (At Join w) w r _ (settledAs (slotIn w s) freshLine) cleared join-calls k zero refl
+      (turned-steps (entriesOf ns) s h (At Join w) w r _ (settledAs (slotIn w s) freshLine) cleared (rejoined w) (λ y. refl) join-calls k
+      zero refl
       (record {
         within = omega (arith, d .within, playerOf-count (s .player));
         view = _;
@@ -178,7 +179,7 @@ module _ (ns : List ℕ) (s : Stage) (h : Staged s) (e : inShape ns ≡ true) (w
         Steps (entriesOf ns) s (At Ack w) (storedBy s w (r .player) x)
     ack-steps r x k zero own =
         let j : List Entry = entriesOf ns in
-        turned-steps j s h (At Ack w) w r _ x withoutAck ack-calls k zero (own .is)
+        turned-steps j s h (At Ack w) w r _ x withoutAck (changed w withoutAck) (λ y. refl) ack-calls k zero (own .is)
         (record {
           within = within;
           view = _;

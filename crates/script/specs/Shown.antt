@@ -15,8 +15,8 @@ use Rattle.record.specs.Record.{takeNumbers}
 use Rattle.rules.specs.View.{PlayerView}
 use Rattle.rules.specs.Offers.{shaped}
 use Rattle.rules.specs.Rules.{Outcome, mainRule, catchRule, writtenRule, ackRule, dropRule, joinRule, sendRule, batchAt}
-use Rattle.delivery.specs.World.{Sent, Ack, Side, World, noSide, sideAt, numbersIn, playerIn, withLines, withPlayer, withSides, withSide}
-use Rattle.delivery.specs.World.{onLine, takeFront, answered, called, calledThen, launch, takeAtLine, ackAtLine, cleared}
+use Rattle.delivery.specs.World.{Sent, Ack, Side, World, noSide, sideAt, numbersIn, playerIn, withLines, withPlayer, withSide}
+use Rattle.delivery.specs.World.{onLine, takeFront, answered, called, calledThen, launch, takeAtLine, ackAtLine, cleared, rejoined}
 use Rattle.delivery.specs.World as W
 use Rattle.delivery.specs.Worlds.{windows-in, withWindows}
 use Rattle.script.specs.declared.Stage.{Stage}
@@ -24,7 +24,7 @@ use Rattle.script_line.specs.declared.Step.{Step}
 use Rattle.script_line.specs.declared.Step.the-variants.{Main, At}
 use Rattle.script_line.specs.declared.Verb.the-variants.{Catch, Send, Written, Ack as AckVerb, Drop, Join, Take}
 use Rattle.script.specs.declared.Stepped.{Stepped}
-use Rattle.script.specs.Stage.{worldOf, forget, forgotten, dueIn, stepIn, replyOf, windowOf, lineIn, stageFits}
+use Rattle.script.specs.Stage.{worldWith, worldOf, forget, forgotten, dueIn, stepIn, replyOf, windowOf, lineIn, stageFits}
 use Rattle.script.specs.Promise.{Steps, Plays}
 use Rattle.script.specs.declared.line.Line.{Line}
 use Rattle.script.specs.Line.{worldSent, worldAck, sentIn, acksIn, sentIn-length, acksIn-length}
@@ -50,7 +50,7 @@ forgotten-in wd = ap (withWindows (playerIn wd)) (views-forget (wd .sides))
 forgotten-twice : (wd : World) → forgotten (forgotten wd) ≡ forgotten wd
 unfolding forgotten
 forgotten-twice wd =
-    ap (λ ps. withSides ps wd) (forget-twice (wd .sides))
+    ap (worldWith (wd .journal) (playerIn wd)) (forget-twice (wd .sides))
 
 pub forgotten-at : (w : ℕ) (wd : World) → sideAt w (forgotten wd) ≡ forget (sideAt w wd)
 unfolding forgotten
@@ -160,10 +160,10 @@ step-alike wd (At AckVerb w) =
 step-alike wd (At Drop w) = alike-called (λ p. dropRule (numbersIn wd) w p) wd
 step-alike wd (At Join w) =
     subst⁻¹ (λ x. Alike (calledThen (joinRule (numbersIn wd) w (x .record′ .last .0) (playerIn (forgotten wd)))
-    (λ y. withSide w (cleared (sideAt w y)) y) (forgotten wd))
+    (rejoined w) (forgotten wd))
     (W.step (stepIn wd (At Join w)) wd)) (forgotten-at w wd)
-    (alike-then (λ p. joinRule (numbersIn wd) w (sideAt w wd .record′ .last .0) p) (λ y. withSide w (cleared (sideAt w y)) y)
-    (λ y. withSide w (cleared (sideAt w y)) y) wd (λ x. side-alike w cleared cleared x refl))
+    (alike-then (λ p. joinRule (numbersIn wd) w (sideAt w wd .record′ .last .0) p) (rejoined w) (rejoined w) wd
+    (λ x. side-alike w cleared cleared x refl))
 step-alike wd (At Take w) =
     line-alike (answered 2) wd w _ _
     (subst⁻¹ (λ x. Alike (takeAtLine w false (x .line) (forgotten wd)) (takeAtLine w false (sideAt w wd .line) wd)) (forgotten-at w wd)

@@ -7,7 +7,7 @@ use lib.ListN.{length, getD, set}
 use Rattle.record.specs.declared.Record.{Record}
 use Rattle.record.specs.Record.{newRecord}
 use Rattle.rules.specs.View.{WindowView, PlayerView, noWindow}
-use Rattle.delivery.specs.World.{Side, World, noSide, withView, withViews, withPlayer, withSides, withSide}
+use Rattle.delivery.specs.World.{Side, World, noSide, playerIn, withView, withViews, withPlayer, withSide}
 use Rattle.script.specs.declared.line.Line.{Line}
 use Rattle.script.specs.Line.{freshLine}
 use Rattle.script.specs.Stage.{sideOf, sidesOf, worldWith, forget, forgotten}
@@ -91,4 +91,4 @@ forgotten-player q wd =
 pub forgotten-side : (w : ℕ) (p : Side) (wd : World) → forgotten (withSide w p wd) ≡ withSide w (forget p) (forgotten wd)
 unfolding forgotten
 forgotten-side w p wd =
-    ap (λ ps. withSides ps wd) (set-forget (wd .sides) w p)
+    ap (worldWith (wd .journal) (playerIn wd)) (set-forget (wd .sides) w p)

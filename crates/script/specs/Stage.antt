@@ -9,7 +9,7 @@ use Rattle.record.specs.declared.Record.{Record}
 use Rattle.record.specs.Record.{newRecord}
 use Rattle.rules.specs.View.{Condition, normal, fetching, completed, suspended, WindowView, PlayerView}
 use Rattle.player.specs.View.{playerOf}
-use Rattle.delivery.specs.World.{Side, World, noSide, sideAt, withSides, answered, empty}
+use Rattle.delivery.specs.World.{Side, World, noSide, sideAt, playerIn, answered, empty}
 use Rattle.delivery.specs.World as W
 use Rattle.script_line.specs.declared.Step.{Step}
 use Rattle.script_line.specs.declared.Step.the-variants.{Main, At}
@@ -21,7 +21,7 @@ use Rattle.script.specs.declared.Reply.the-variants.{Answered, Empty}
 use Rattle.script.specs.Line.{worldSent, worldAck, sentIn, acksIn, freshLine}
 
 -- ------------------------------------------------------------------------
--- The stage as a world. It keeps no history of what was taken.
+-- The stage as a world. It keeps no history, neither of what was taken nor of the terms used.
 
 -- a window's side of the stage
 abbrev pub sideOf : WindowView → Record → Line → Side
@@ -39,9 +39,9 @@ sidesOf (v ∷ vs) [] ls = noSide ∷ sidesOf vs [] ls
 sidesOf (v ∷ vs) (r ∷ rs) [] = noSide ∷ sidesOf vs rs []
 sidesOf (v ∷ vs) (r ∷ rs) (l ∷ ls) = sideOf v r l ∷ sidesOf vs rs ls
 
--- a journal, a player's numbers, and the windows' sides
+-- a journal, a player's numbers, and the windows' sides; of the greatest term used nothing is known
 abbrev pub worldWith : List Entry → PlayerView → List Side → World
-worldWith j q ps = record { journal = j; limit = q .limit; spacing = q .spacing; current = q .current; sides = ps }
+worldWith j q ps = record { journal = j; limit = q .limit; spacing = q .spacing; current = q .current; sides = ps; greatest = 0 }
 
 unfoldable pub worldOf : List Entry → Stage → World
 worldOf j s = worldWith j (playerOf (s .player)) (sidesOf (playerOf (s .player) .windows) (s .records) (s .lines))
@@ -51,7 +51,7 @@ abbrev pub forget : Side → Side
 forget p = record { view = p .view; record′ = p .record′; line = p .line; back = p .back; taken = [] }
 
 unfoldable pub forgotten : World → World
-forgotten wd = withSides (map forget (wd .sides)) wd
+forgotten wd = worldWith (wd .journal) (playerIn wd) (map forget (wd .sides))
 
 -- ------------------------------------------------------------------------
 -- A script's step as a step of the world: `main` and `catch` offer the index due, terms are current, the output lent has room for a batch

@@ -15,6 +15,7 @@ use Rattle.journal.specs.declared.Entry.{Entry}
 use Rattle.journal.specs.Entry.{numbersOf, countOf, fiveOf, isFor}
 use Rattle.journal.specs.Own.{isOwn}
 use Rattle.record.specs.Record.{takeNumbers}
+use Rattle.rules.specs.declared.Term.{Term}
 use Rattle.rules.specs.View.{WindowView, PlayerView, noWindow}
 use Rattle.rules.specs.Window.{wanted, tickAt, mainAt, fetched, batchOf, Report, told, silence, startedBy}
 use Rattle.rules.specs.Rules.{windowAt, sentFor}
@@ -22,7 +23,7 @@ use Rattle.rules.specs.Offers.{readAt-other, tickAt-cases, mainAt-both, mainAt-
 use Rattle.rules.specs.Offers.{startNext-at, startRule-done}
 use Rattle.delivery.specs.World.{Sent, Side, World, noSide, sideAt, withSide, takeFront, newSide, opened}
 use Rattle.delivery.specs.World as W
-use Rattle.delivery.specs.Statement.{newReports, firstStart}
+use Rattle.delivery.specs.Statement.{newReports, firstStart, firstWorld}
 use Rattle.delivery.specs.Invariant.{lineEntries, Reached}
 use Rattle.delivery.specs.Lines.{onLine-entries}
 use Rattle.delivery.specs.KeepSend.{launchedSide}
@@ -177,9 +178,10 @@ module _ (wd : World) (s : W.Step) (is : scripted s ≡ true) (r : Tickless wd) 
       after-side v _ _ l e (record { queues = record { normal = refl; catchUp = refl }; line = o .line; taken = o .taken })
   own-facts (joining v same done l away e shaped) =
       let o = r .each v l in
-      after-side v _ _ l e
-      (record { queues = record { normal = o .queues .normal; catchUp = o .queues .catchUp }; line = refl; taken = o .taken })
-  own-facts (starting b e silent same done k) = absurd (true≢false (sym is ∙ ap scripted same))
+      subst⁻¹ After e
+      (after-side v _ _ l refl
+      (record { queues = record { normal = o .queues .normal; catchUp = o .queues .catchUp }; line = refl; taken = o .taken }))
+  own-facts (starting b e first silent same done k) = absurd (true≢false (sym is ∙ ap scripted same))
   own-facts (appending x same done few e) = absurd (true≢false (sym is ∙ ap scripted same))
 
 -- ------------------------------------------------------------------------
@@ -202,39 +204,40 @@ tickless-run wd [] r = r
 tickless-run wd (s ∷ ss) r = tickless-run (W.step (stepIn wd s) wd .world) ss (tickless-step wd s r)
 
 -- a window begins with nothing queued
-started-own : (j : List Entry) (w l : ℕ) (r : Report) → OwnQueues j w (startedBy l r)
+started-own : (j : List Entry) (w : ℕ) (first : Term) (l : ℕ) (r : Report) → OwnQueues j w (startedBy first l r)
 unfolding all
-started-own j w l (told r) = record { normal = refl; catchUp = refl }
-started-own j w l silence = record { normal = refl; catchUp = refl }
+started-own j w first l (told r) = record { normal = refl; catchUp = refl }
+started-own j w first l silence = record { normal = refl; catchUp = refl }
 
-module _ (before : PlayerView) (j : List Entry) (count spacing : ℕ) (done : firstStart before j count 2 spacing 0 .answer ≡ 0)
-    (short : length j < spacing) where
-  abbrev first : World
-  first = opened j (firstStart before j count 2 spacing 0)
+module _ (before : PlayerView) (j : List Entry) (count spacing : ℕ) (first : Term)
+    (done : firstStart before j count 2 spacing first 0 .answer ≡ 0) (short : length j < spacing) where
+  abbrev wd₀ : World
+  wd₀ = firstWorld before j count 2 spacing first 0
 
-  tickless-opened : Tickless first
+  tickless-opened : Tickless wd₀
   unfolding opened all
   tickless-opened =
       let reports : List Report = newReports 0 count in
-      let d = startRule-done (numbersOf j) count 2 spacing reports before done in
+      let d = startRule-done (numbersOf j) count 2 spacing first reports before done in
       record {
-        reached = opened-reached before j count 2 spacing 0 done;
+        reached = opened-reached before j count 2 spacing first 0 done;
         short = rw (ap (λ q. q .spacing) (d .next)) short;
         each = λ w h.
             let l : ℕ = countOf (numbersOf j) in
-            let views : List WindowView = firstStart before j count 2 spacing 0 .next .windows in
+            let views : List WindowView = firstStart before j count 2 spacing first 0 .next .windows in
             let view = ap (windowAt w) (d .next)
-            ∙ startNext-at l 2 spacing reports w (omega (arith, d .given .each, opened-count before j count 2 spacing 0 done)) in
+            ∙ startNext-at l 2 spacing first reports w
+            (omega (arith, d .given .each, opened-count before j count 2 spacing first 0 done)) in
             subst⁻¹ (OwnSide j w) (List·getD-map newSide views w noWindow)
             (record {
-              queues = subst⁻¹ (OwnQueues j w) view (started-own j w l (getD reports w silence));
+              queues = subst⁻¹ (OwnQueues j w) view (started-own j w first l (getD reports w silence));
               line = refl;
               taken = refl;
             });
       }
 
   -- in every world that a script reaches from there, all that a window has taken is its own
-  pub taken-own : (ss : List Step) (w : ℕ) → w < count → all (isOwn w) (sideAt w (W.run first (stepsIn first ss)) .taken) ≡ true
+  pub taken-own : (ss : List Step) (w : ℕ) → w < count → all (isOwn w) (sideAt w (W.run wd₀ (stepsIn wd₀ ss)) .taken) ≡ true
   taken-own ss w below =
-      let count-now = run-count first (stepsIn first ss) (tickless-opened .reached) in
-      tickless-run first ss tickless-opened .each w (omega (arith, count-now, opened-count before j count 2 spacing 0 done)) .taken
+      let count-now = run-count wd₀ (stepsIn wd₀ ss) (tickless-opened .reached) in
+      tickless-run wd₀ ss tickless-opened .each w (omega (arith, count-now, opened-count before j count 2 spacing first 0 done)) .taken

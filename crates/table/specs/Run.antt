@@ -5,9 +5,9 @@ use mathlib.Core.Bool.{true}
 use Rattle.journal.specs.Entry.{numbersOf}
 use Rattle.record.specs.declared.Record.{Record}
 use Rattle.rules.specs.View.{PlayerView}
-use Rattle.delivery.specs.World.{World, sideAt, answered, run, opened, replies}
+use Rattle.delivery.specs.World.{World, sideAt, answered, run, replies}
 use Rattle.delivery.specs.World as W
-use Rattle.delivery.specs.Statement.{firstStart}
+use Rattle.delivery.specs.Statement.{firstWorld}
 use Rattle.delivery.specs.Examples.{computed, done, Shown, nobody, afternoon}
 use Rattle.script_line.specs.declared.Step.{Step}
 use Rattle.script_line.specs.declared.Step.the-variants.{Main, At}
@@ -15,7 +15,7 @@ use Rattle.script_line.specs.declared.Verb.the-variants.{Catch, Send, Drop, Joi
 use Rattle.script.specs.declared.Stage.{Stage}
 use Rattle.script.specs.declared.Reply.{Reply}
 use Rattle.script.specs.Stage.{stepsIn, replyOf, recordIn}
-use Rattle.script.specs.Opening.{runSpacing, openingAnswer, openedBy}
+use Rattle.script.specs.Opening.{runSpacing, runFirst, openingAnswer, openedBy}
 use Rattle.script.specs.Delivered.{Script, script-runs}
 
 -- the ten steps after `run`
@@ -35,7 +35,7 @@ pub record PrintsA (replies : List W.Reply) (record0 record1 : Record) : Type 0 
 
 -- `windows 2` and the journal: the world that the stage is opened on, whatever a player held before
 abbrev pub afternoonWorld : PlayerView → World
-afternoonWorld before = opened afternoon (firstStart before afternoon 2 2 runSpacing 0)
+afternoonWorld before = firstWorld before afternoon 2 2 runSpacing runFirst 0
 
 -- by the rules
 abbrev pub RunA : PlayerView → Type 0

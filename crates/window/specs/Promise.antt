@@ -12,6 +12,7 @@ use Rattle.window.specs.declared.Condition.the-variants as Held
 use Rattle.window.specs.declared.Window.{Window}
 use Rattle.window.specs.declared.Turned.{Turned}
 use Rattle.window.specs.View.{viewOf}
+use Rattle.rules.specs.declared.Term.{Term}
 use Rattle.rules.specs.Window.{Turn, Report, told, silence}
 
 abbrev pub numberOf : Answer → ℕ
@@ -40,11 +41,11 @@ pub record MeetsWindow (before : Window) (r : Turned) (t : Turn) : Type 0 where
   pub next : viewOf (r .window) ≡ t .next
   pub unchanged : (t .answer ≡ 0 → ⊥) → r .window ≡ before
 
--- a window as Start leaves it, whole: on its first term, the line free, 128 zeros in each queue
-abbrev pub windowAtStart : Index → Index → Condition → Window
-windowAtStart acked sent condition = record {
+-- a window as Start leaves it, whole: on the first term, the line free, 128 zeros in each queue
+abbrev pub windowAtStart : Term → Index → Index → Condition → Window
+windowAtStart first acked sent condition = record {
   head = record {
-    term = record { 0 = 1 };
+    term = first;
     acked = acked;
     sent = sent;
     busy = false;
@@ -56,13 +57,13 @@ windowAtStart acked sent condition = record {
 }
 
 -- one that has a report is Normal, acknowledged and sent the report
-abbrev pub freshWindow : ℕ → Window
-freshWindow r = windowAtStart (record { 0 = r }) (record { 0 = r }) Normal
+abbrev pub freshWindow : Term → ℕ → Window
+freshWindow first r = windowAtStart first (record { 0 = r }) (record { 0 = r }) Normal
 
 -- a silent one is Suspended, acknowledged 0 and sent L
-abbrev pub silentWindow : ℕ → Window
-silentWindow l = windowAtStart (record { 0 = 0 }) (record { 0 = l }) Held.Suspended
+abbrev pub silentWindow : Term → ℕ → Window
+silentWindow first l = windowAtStart first (record { 0 = 0 }) (record { 0 = l }) Held.Suspended
 
-abbrev pub windowBy : ℕ → Report → Window
-windowBy l (told r) = freshWindow r
-windowBy l silence = silentWindow l
+abbrev pub windowBy : Term → ℕ → Report → Window
+windowBy first l (told r) = freshWindow first r
+windowBy first l silence = silentWindow first l

@@ -20,8 +20,8 @@ returns-2 c =
     and-passed (first .before .count-fits .ensures) (first .if1 .left)
     (and-failed _ (c .before .limit-fits .ensures) (c .if2 .taken))
 
-in-shape-requires : tie.Need-in-shape-requires
-in-shape-requires c κs = search needs
+first-fits-requires : tie.Need-first-fits-requires
+first-fits-requires c κs = search needs
 
 returns-3 : tie.Need-returns-3
 returns-3 c =
@@ -29,16 +29,30 @@ returns-3 c =
     let first = second .before .before in
     and-passed (first .before .count-fits .ensures) (first .if1 .left)
     (and-passed (second .before .limit-fits .ensures) (second .if2 .left)
-    (and-failed _ (c .before .in-shape .ensures) (c .if3 .taken)))
+    (and-failed _ (c .before .first-fits .ensures) (c .if3 .taken)))
+
+in-shape-requires : tie.Need-in-shape-requires
+in-shape-requires c κs = search needs
 
 returns-4 : tie.Need-returns-4
 returns-4 c =
-    let third = c in
+    let third = c .before .before in
     let second = third .before .before in
     let first = second .before .before in
     and-passed (first .before .count-fits .ensures) (first .if1 .left)
     (and-passed (second .before .limit-fits .ensures) (second .if2 .left)
-    (and-passed (third .before .in-shape .ensures) (third .if3 .left) refl))
+    (and-passed (third .before .first-fits .ensures) (third .if3 .left)
+    (and-failed _ (c .before .in-shape .ensures) (c .if4 .taken))))
+
+returns-5 : tie.Need-returns-5
+returns-5 c =
+    let third = c .before .before in
+    let second = third .before .before in
+    let first = second .before .before in
+    and-passed (first .before .count-fits .ensures) (first .if1 .left)
+    (and-passed (second .before .limit-fits .ensures) (second .if2 .left)
+    (and-passed (third .before .first-fits .ensures) (third .if3 .left)
+    (and-passed (c .before .in-shape .ensures) (c .if4 .left) refl)))
 
 pub start-in-shape-spec : {M : Type 1} → statement M
 start-in-shape-spec =
@@ -48,6 +62,8 @@ start-in-shape-spec =
     returns
     limit-fits-requires
     returns-2
-    in-shape-requires
+    first-fits-requires
     returns-3
-    returns-4)
+    in-shape-requires
+    returns-4
+    returns-5)

@@ -17,13 +17,13 @@ use Rattle.operations.proofs.start.start_on.Tie as tie
 -- the first checks pass
 fit : (c : tie.Else1) →
     let args = c .before .before .before .before .args in
-    startFits (args .journal .now) (args .count) (args .limit) (length (args .reports .now)) ≡ true
+    startFits (args .journal .now) (args .count) (args .limit) (args .first) (length (args .reports .now)) ≡ true
 fit c = sym (c .before .start-in-shape .ensures) ∙ not-false _ (c .if1 .left)
 
 few : (c : tie.Else1) →
     let args = c .before .before .before .before .args in
     Counted (args .journal .now) (args .count) (length (args .reports .now))
-few c = let args = c .before .before .before .before .args in counted _ _ (args .limit) _ (fit c)
+few c = let args = c .before .before .before .before .args in counted _ _ (args .limit) (args .first) _ (fit c)
 
 -- the spacing fits
 spaced : (c : tie.Else2) → spacingFits (c .before .before .before .before .before .before .args .spacing) ≡ true
@@ -40,14 +40,15 @@ start-in-shape-requires c κs = search needs
 
 returns : tie.Need-returns
 returns c =
-    start-shapeless _ _ _ _ _ _ (rw said-length (sym (c .before .start-in-shape .ensures) ∙ not-true _ (c .if1 .taken)))
+    start-shapeless _ _ _ _ _ _ _ (rw said-length (sym (c .before .start-in-shape .ensures) ∙ not-true _ (c .if1 .taken)))
 
 spacing-fits-requires : tie.Need-spacing-fits-requires
 spacing-fits-requires c κs = search needs
 
 returns-2 : tie.Need-returns-2
 returns-2 c =
-    start-unspaced _ _ _ _ _ _ (rw said-length (fit (c .before .before))) (sym (c .before .spacing-fits .ensures) ∙ not-true _ (c .if2 .taken))
+    start-unspaced _ _ _ _ _ _ _ (rw said-length (fit (c .before .before)))
+    (sym (c .before .spacing-fits .ensures) ∙ not-true _ (c .if2 .taken))
 
 entries-requires : tie.Need-entries-requires
 entries-requires c κs = search needs
@@ -64,7 +65,7 @@ returns-3 : tie.Need-returns-3
 returns-3 c =
     let asked = c .before in
     let own = asked .before .before in
-    start-refused _ _ _ _ _ _ (rw said-length (fit (own .before .before))) (spaced own)
+    start-refused _ _ _ _ _ _ _ (rw said-length (fit (own .before .before))) (spaced own)
     (rw (asked .before .entries .ensures) at (sym (asked .are-reports .ensures) ∙ not-true _ (c .if3 .taken)))
 
 lowest-requires : tie.Need-lowest-requires
@@ -79,8 +80,9 @@ returns-4 c =
     let own = last .before .before .before in
     let l = last .before .before .entries .ensures in
     let args = own .before .before .before .before .before .before .args in
-    start-done _ _ _ _ _ _ (rw said-length (fit (own .before .before))) (spaced own) (right last) _
-    (started-player (args .journal .now) _ (said (args .silent) (args .reports .now)) (right last) (rw l at (c .before .lowest .ensures)) (rw l at (c .windows-of .ensures)))
+    start-done _ _ _ _ _ _ _ (rw said-length (fit (own .before .before))) (spaced own) (right last) _
+    (started-player (args .journal .now) _ (args .first) (said (args .silent) (args .reports .now)) (right last)
+    (rw l at (c .before .lowest .ensures)) (rw l at (c .windows-of .ensures)))
 
 pub start-on-spec : {M : Type 1} → statement M
 start-on-spec =

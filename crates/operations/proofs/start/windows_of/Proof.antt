@@ -13,14 +13,14 @@ use Rattle.operations.proofs.start.windows_of.Statement.{statement}
 use Rattle.operations.proofs.start.windows_of.Tie as tie
 
 abbrev Inv-loop : tie.InvT-loop
-Inv-loop l reports silent windows₀ next₀ windows next =
-    (next ≤ length reports) × (length windows ≡ 16) × (windows ≡ freshWindows (l .0) (take next (said silent reports)))
+Inv-loop first l reports silent windows₀ next₀ windows next =
+    (next ≤ length reports) × (length windows ≡ 16) × (windows ≡ freshWindows first (l .0) (take next (said silent reports)))
 
 abbrev μ-loop : tie.MeasureT-loop
-μ-loop l reports silent windows₀ next₀ windows next = length reports - next
+μ-loop first l reports silent windows₀ next₀ windows next = length reports - next
 
 loop-holds : tie.Need-loop-holds Inv-loop μ-loop
-loop-holds c = (search needs, refl, rw (c .started .ensures) (freshWindows-none _))
+loop-holds c = (search needs, refl, rw (c .started .ensures) (freshWindows-none _ _))
 
 loop-again : tie.Need-loop-again Inv-loop μ-loop
 loop-again c =
@@ -28,7 +28,7 @@ loop-again c =
     let long = at .inv .1 in (
       search needs,
       search needs,
-      rw (at .inv .2, c .window-of .ensures) (freshWindows-more _ _ _ _ (c .before .before .loop-test .taken) (omega arith)),
+      rw (at .inv .2, c .window-of .ensures) (freshWindows-more _ _ _ _ _ (c .before .before .loop-test .taken) (omega arith)),
     )
 
 returns : tie.Need-returns Inv-loop μ-loop
@@ -36,7 +36,9 @@ returns c =
     let args = c .before .before .before .before .args in
     let rs = said (args .silent) (args .reports .now) in
     let e : c .before .loop .next ≡ length rs = omega (arith, said-length (args .silent) (args .reports .now)) in
-    c .before .loop .inv .2 ∙ ap (λ n. freshWindows (args .l .0) (take n rs)) e ∙ ap (freshWindows (args .l .0)) (take-length rs)
+    c .before .loop .inv .2
+    ∙ ap (λ n. freshWindows (args .first) (args .l .0) (take n rs)) e
+    ∙ ap (freshWindows (args .first) (args .l .0)) (take-length rs)
 
 pub windows-of-spec : {M : Type 1} → statement M
 windows-of-spec =
