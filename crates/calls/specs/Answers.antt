@@ -8,9 +8,9 @@ use borrow.Author.Tests.{eqb-true}
 use lib.Dec.{eqb}
 use Rattle.lists.specs.Cases.{true-or-false}
 use Rattle.lists.specs.Elem.{elem}
+use Rattle.rules.specs.declared.Settings.{Settings}
 use Rattle.rules.specs.declared.Term.{Term}
 use Rattle.rules.specs.View.{PlayerView}
-use Rattle.rules.specs.Window.{Report}
 use Rattle.rules.specs.Rules.{mainRule, catchRule, writtenRule, ackRule, dropRule, joinRule, sendRule, startRule}
 use Rattle.rules.specs.Offers.{startRule-refusals, mainRule-refusals, catchRule-refusals, sendRule-refusals, writtenRule-refusals, ackRule-refusals, dropRule-refusals, joinRule-refusals}
 use Rattle.window.specs.declared.Answer.{Answer}
@@ -59,10 +59,10 @@ cond-same false x = refl
 -- ------------------------------------------------------------------------
 -- The rules
 
-pub start-numbered : (ns : List ℕ) (count limit spacing : ℕ) (first : Term) (reports : List Report) (p : PlayerView) →
-    Numbered (startRule ns count limit spacing first reports p .answer)
-start-numbered ns count limit spacing first reports p =
-    numbered answers _ (simp (startRule-refusals ns count limit spacing first reports p, cond-in, done-in, cond-same))
+pub start-numbered : (ns : List ℕ) (count : ℕ) (settings : Settings) (reports : List ℕ) (p : PlayerView) →
+    Numbered (startRule ns count settings reports p .answer)
+start-numbered ns count settings reports p =
+    numbered answers _ (simp (startRule-refusals ns count settings reports p, cond-in, done-in, cond-same))
 
 pub main-numbered : (ns : List ℕ) (i : ℕ) (p : PlayerView) → Numbered (mainRule ns i p .answer)
 main-numbered ns i p = numbered answers _ (simp (mainRule-refusals ns i p, cond-in, done-in, cond-same))

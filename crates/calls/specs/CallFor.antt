@@ -15,8 +15,8 @@ use Rattle.rules.specs.Offers.{Effect, LawfulRule, mainRule-refuses, mainRule-c
 use Rattle.player.specs.View.{playerOf}
 use Rattle.delivery.specs.World.{Ack, Step}
 use Rattle.delivery.specs.World as W
-use Rattle.calls.specs.Host.{Sent, Host, endAt, Call, main, catch, written, send, take, ack, late-ack, drop, join, append, reportOf, isLate, MadeTake, Made}
-use Rattle.calls.specs.Steps.{callStep, lawful-count}
+use Rattle.calls.specs.Host.{Sent, Host, endAt, Call, main, catch, written, send, take, ack, late-ack, drop, join, append, callStep, reportOf, isLate, MadeTake, Made}
+use Rattle.calls.specs.Steps.{lawful-count}
 use Rattle.calls.specs.Answers.{Numbered, main-numbered, catch-numbered, send-numbered, written-numbered, ack-numbered, drop-numbered, join-numbered}
 use Rattle.calls.specs.Held.{Given, given, takeGiven}
 

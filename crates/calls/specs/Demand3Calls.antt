@@ -12,12 +12,12 @@ use Rattle.lists.specs.Cases.{and-left}
 use Rattle.lists.specs.All.{all}
 use Rattle.lists.specs.Elem.{lastOr}
 use Rattle.lists.specs.Keep.{keep}
+use Rattle.lists.specs.Same.{sameList}
 use Rattle.record.specs.declared.Record.{Record}
 use Rattle.record.specs.Record.{newRecord, takeEntry, takeAll}
 use Rattle.record.specs.Laws.{takeNumbers-placed}
-use Rattle.rules.specs.declared.Term.{Term}
+use Rattle.rules.specs.declared.Settings.{Settings}
 use Rattle.rules.specs.View.{WindowView}
-use Rattle.rules.specs.Window.{Report}
 use Rattle.rules.specs.Rules.{Outcome, speaks, startRule}
 use Rattle.rules.specs.Offers.{StartDone, startRule-done}
 use Rattle.window.specs.Promise.{numberOf}
@@ -26,17 +26,12 @@ use Rattle.player.specs.declared.Played.{Played}
 use Rattle.player.specs.View.{playerOf}
 use Rattle.delivery.specs.World.{Side, World, newSide, sideAt, playerIn, Step, run}
 use Rattle.delivery.specs.World as W
-use Rattle.delivery.specs.Statement.{isTick, newReports, firstStart}
+use Rattle.delivery.specs.Statement.{isTick, newReports, firstStart, firstWorld}
 use Rattle.delivery.specs.Statement as Delivery
-use Rattle.delivery.specs.Same.{sameList}
-use Rattle.delivery.specs.Invariant.{Reached}
-use Rattle.delivery.specs.Worlds.{entries-in, count-in}
-use Rattle.delivery.specs.Reach.{reached-run}
-use Rattle.delivery.specs.Demand3.{opened-reached, demand-3}
-use Rattle.calls.specs.Host.{indexOf, Host, newEnd, endAt, Call, MadeAll, hostAfter, opened}
-use Rattle.calls.specs.Statement.{joinedAfter, NoneCan, isOwnFive, ownFives, isTickFive, takeFives, Leading, Delivers, FirstStart, Demand3Calls}
+use Rattle.delivery.specs.Offers.{Reached, entries-in, count-in, reached-run, opened-reached, demand-3}
+use Rattle.calls.specs.Host.{indexOf, Host, newEnd, endAt, Call, callStep, MadeAll, hostAfter, opened}
+use Rattle.calls.specs.Statement.{AllJoined, NoneCan, isOwnFive, ownFives, isTickFive, takeFives, Leading, Delivers, FirstStart, Demand3Calls}
 use Rattle.calls.specs.Shows.{endOf, Shows, shows-end}
-use Rattle.calls.specs.Steps.{callStep}
 use Rattle.calls.specs.Runs.{hostAfter-shows, changes-steps, joinedAfter-steps}
 use Rattle.calls.specs.NoneCan.{none-steps}
 
@@ -104,8 +99,7 @@ module _ (count : ℕ) {h : Host} {wd : World} (is : Shows h wd) (reached : Reac
   shown : Shows (hostAfter h calls) (run wd steps)
   shown = hostAfter-shows is reached calls made
 
-  pub joined-shown : (silent : ℕ) → ((w : ℕ) → w < count → joinedAfter w (speaks silent w) calls ≡ true) →
-      (w : ℕ) → w < count → Delivery.joinedAfter w (speaks silent w) wd steps ≡ true
+  pub joined-shown : (silent : ℕ) → AllJoined count silent h calls → Delivery.AllJoined count silent wd steps
   joined-shown silent joined w l = sym (joinedAfter-steps w (speaks silent w) is reached calls made) ∙ joined w l
 
   pub none-shown : NoneCan (hostAfter h calls) → Delivery.NoneCan (run wd steps)
@@ -133,28 +127,28 @@ newSide-ends : (vs : List WindowView) → map endOf (map newSide vs) ≡ replica
 newSide-ends [] = refl
 newSide-ends (v ∷ vs) = ap (λ l. newEnd ∷ l) (newSide-ends vs)
 
-module _ (before : Player) (ns : List ℕ) (count limit spacing : ℕ) (first : Term) (silent : ℕ) (r : Played)
-    (made : FirstStart before ns count limit spacing first silent r) (done : numberOf (r .answer) ≡ 0) where
-  abbrev told-first : List Report
-  told-first = newReports silent count
+module _ (before : Player) (ns : List ℕ) (count : ℕ) (settings : Settings) (r : Played)
+    (made : FirstStart before ns count settings r) (done : numberOf (r .answer) ≡ 0) where
+  abbrev first : Host
+  first = opened (r .player) (settings .first) ns count
 
   abbrev starts : Outcome
-  starts = startRule ns count limit spacing first told-first (playerOf before)
+  starts = startRule ns count settings (newReports count) (playerOf before)
 
   abbrev startsIn : Outcome
-  startsIn = firstStart (playerOf before) (entriesOf ns) count limit spacing first silent
+  startsIn = firstStart (playerOf before) (entriesOf ns) count settings
 
-  started-done : StartDone ns count limit spacing first told-first starts
-  started-done = startRule-done ns count limit spacing first told-first (playerOf before) (sym (made .answer) ∙ done)
+  started-done : StartDone ns count settings (newReports count) starts
+  started-done = startRule-done ns count settings (newReports count) (playerOf before) (sym (made .answer) ∙ done)
 
   -- a journal that Start takes is the numbers of its entries
   whole : numbersOf (entriesOf ns) ≡ ns
   whole = numbersOf-entriesOf ns (eqb-true _ _ (and-left _ _ (started-done .given .journal)))
 
   first-same : startsIn ≡ starts
-  first-same = ap (λ ns. startRule ns count limit spacing first told-first (playerOf before)) whole
+  first-same = ap (λ ns. startRule ns count settings (newReports count) (playerOf before)) whole
 
-  pub opened-shows : Shows (opened (r .player) first ns count) (W.opened (entriesOf ns) first startsIn)
+  pub opened-shows : Shows first (firstWorld (playerOf before) (entriesOf ns) count settings)
   unfolding W.opened
   opened-shows = record {
     player =
@@ -166,7 +160,7 @@ module _ (before : Player) (ns : List ℕ) (count limit spacing : ℕ) (first : 
           windows = vs;
         })
         (sym (map-map (λ p. p .view) newSide (starts .next .windows) ∙ map-id (starts .next .windows)))
-        ∙ ap (λ o. playerIn (W.opened (entriesOf ns) first o)) (sym first-same);
+        ∙ ap (λ o. playerIn (W.opened (entriesOf ns) (settings .first) o)) (sym first-same);
     journal = sym whole;
     windows =
         ap (λ n. replicate n newEnd) (sym (started-done .windows))
@@ -178,11 +172,10 @@ module _ (before : Player) (ns : List ℕ) (count limit spacing : ℕ) (first : 
   pub first-done : startsIn .answer ≡ 0
   first-done = ap (λ o. o .answer) first-same ∙ sym (made .answer) ∙ done
 
-  delivers : (calls : List Call) → MadeAll (opened (r .player) first ns count) calls →
-      Delivers count silent (opened (r .player) first ns count) calls
+  delivers : (calls : List Call) → MadeAll first calls → Delivers count (settings .silent) first calls
   delivers calls met =
-      delivers-shown count opened-shows (opened-reached (playerOf before) (entriesOf ns) count limit spacing first silent first-done)
-      calls met silent (demand-3 (playerOf before) (entriesOf ns) count limit spacing first silent (map callStep calls) first-done)
+      delivers-shown count opened-shows (opened-reached (playerOf before) (entriesOf ns) count settings first-done)
+      calls met (settings .silent) (demand-3 (playerOf before) (entriesOf ns) count settings (map callStep calls) first-done)
 
 -- Demand 3 of the calls, for every W, batch limit, spacing, first term, set of silent windows, journal and list of calls
 pub demand-3-calls : Demand3Calls

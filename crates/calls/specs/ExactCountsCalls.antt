@@ -1,104 +1,54 @@
 -- W4's counts hold of the calls: a call is counted as its step is, and the host that a fault or an append left shows the world left.
-use Prim.Native.Nat.{ℕ, suc, _≤_, _<_}
-use mathlib.Core.Path.{_≡_, refl, sym, ap, ap₂, subst, _∙_}
-use mathlib.Core.Logic.{⊎-elim}
+use Prim.Native.Nat.{ℕ, suc, _<_}
+use mathlib.Core.Path.{_≡_, refl, sym, ap, ap₂, _∙_}
 use mathlib.Core.List.{List, [], _∷_, map}
-use mathlib.Core.Bool.{Bool, true, false, cond, _&&_, and-assoc}
+use mathlib.Core.Bool.{Bool, true, false, cond, _&&_}
 use native.Mathlib.Omega.{arith}
-use borrow.Author.Tests.{lt-ltb, le-ltb}
-use lib.ListN.{length}
-use lib.Dec.{eqb}
-use Rattle.lists.specs.Cases.{le-or-lt}
 use Rattle.journal.specs.Entry.{entriesOf}
-use Rattle.journal.specs.Own.{isOwn}
-use Rattle.record.specs.declared.Taken.{Taken}
-use Rattle.rules.specs.Rules.{mainRule}
 use Rattle.player.specs.View.{playerOf}
 use Rattle.planner.specs.Plan.{figures, planned, planRule}
-use Rattle.delivery.specs.World.{World, sideAt, takeAtLine, Step, step, run}
+use Rattle.delivery.specs.World.{World, sideAt, Step, step, run}
 use Rattle.delivery.specs.World as W
-use Rattle.delivery.specs.Statement as Delivery
-use Rattle.delivery.specs.Counts.{ownFront, isTakeOf, isMain}
+use Rattle.delivery.specs.Sorts.{begins, isTakeAt}
 use Rattle.delivery.specs.Counts as Counting
-use Rattle.delivery.specs.Invariant.{Reached}
-use Rattle.delivery.specs.Reach.{reached-step}
-use Rattle.delivery.specs.Demand3.{opened-reached}
-use Rattle.delivery.specs.ExactCounts.{exact-counts}
-use Rattle.calls.specs.Host.{Host, endAt, Call, main, catch, written, send, take, ack, late-ack, drop, join, start, append, reportOf, MadeTake, Made, after, MadeAll, hostAfter}
-use Rattle.calls.specs.Statement.{begins}
-use Rattle.calls.specs.Counts.{tookFrom, takenAt, mainRead, doneSince, leftBy, lastAt, limitIn, figuresFor, Counts, ExactCountsCalls}
-use Rattle.calls.specs.Shows.{inNumbers, Shows, shows-end, shows-meets}
-use Rattle.calls.specs.Steps.{callStep}
-use Rattle.calls.specs.StepsLine.{sideAt-none}
+use Rattle.delivery.specs.Offers.{Reached, reached-step, opened-reached, exact-counts}
+use Rattle.calls.specs.Host.{Host, Call, callStep, callSort, reportOf, doneIn, after, MadeAll, hostAfter}
+use Rattle.calls.specs.Counts.{ownFront, takesOwn, reads, doneSince, leftBy, lastAt, limitIn, figuresFor, Counts, ExactCountsCalls}
+use Rattle.calls.specs.Shows.{inNumbers, Shows, shows-end}
 use Rattle.calls.specs.Runs.{follows, hostAfter-shows}
 use Rattle.calls.specs.Demand3Calls.{entries-shown, length-shown, joined-shown, none-shown, opened-shows, first-done}
 
 -- ------------------------------------------------------------------------
--- A call is counted as its step is
+-- A call is of the kind that its step is of
 
-module _ {h : Host} {wd : World} (is : Shows h wd) where
-  took-line : (w v : ℕ) (acks : Bool) (t : Taken) (l : List W.Sent) → MadeTake t (map inNumbers l) (sideAt v wd .record′) →
-      tookFrom w (map inNumbers l) t ≡ (ownFront w l && Delivery.isDone (takeAtLine v acks l wd .reply))
-  took-line w v acks t [] made = refl
-  took-line w v acks t (s ∷ rest) made = ap (λ o. isOwn w (s .placed) && eqb (o .number) 0) made
+-- kinds of calls and of steps that agree wherever a host shows a world
+abbrev Agree : (Host → Call → Bool) → (World → Step → Bool) → Type 0
+Agree kind kindIn = (h : Host) (wd : World) → Shows h wd → (c : Call) → kind h c ≡ kindIn wd (callStep c)
 
-  took-step : (w v : ℕ) (acks : Bool) (t : Taken) → Made h (take v acks t) →
-      tookFrom w (endAt v h .line) t ≡ (ownFront w (sideAt v wd .line) && Delivery.isDone (step (W.take v acks) wd .reply))
-  unfolding step
-  took-step w v acks t made =
-      ap (λ d. tookFrom w (d .line) t) (shows-end is v)
-      ∙ ⊎-elim
-      (λ (n : length (wd .sides) ≤ v). rw (le-ltb v (length (wd .sides)) n, sideAt-none wd v n))
-      (λ (n : v < length (wd .sides)).
-      rw (lt-ltb v (length (wd .sides)) n)
-      (took-line w v acks t (sideAt v wd .line) (subst (λ d. MadeTake t (d .line) (d .record′)) (shows-end is v) made)))
-      (le-or-lt (length (wd .sides)) v)
+front-own : (w : ℕ) (l : List W.Sent) → ownFront w (map inNumbers l) ≡ Counting.ownFront w l
+front-own w [] = refl
+front-own w (s ∷ rest) = refl
 
-  -- a test of calls picks those whose steps are of a kind and are answered 0
-  abbrev Picks : (Call → Host → Bool) → (World → Step → Bool) → Call → Type 0
-  Picks picks kind c = picks c h ≡ (kind wd (callStep c) && Delivery.isDone (step (callStep c) wd .reply))
+takes-agree : (w : ℕ) → Agree (takesOwn w) (Counting.takesOwn w)
+takes-agree w h wd is c =
+    ap (λ b. isTakeAt w (callSort c) && b) (ap (λ d. ownFront w (d .line)) (shows-end is w) ∙ front-own w (sideAt w wd .line))
 
-  takes-picked : (w : ℕ) (c : Call) → Made h c → Picks (takenAt w) (isTakeOf w) c
-  takes-picked w (main i r) made = refl
-  takes-picked w (catch v t i r) made = refl
-  takes-picked w (written v t r) made = refl
-  takes-picked w (send v lent r out) made = refl
-  takes-picked w (take v acks t) made = ap (λ b. eqb v w && b) (took-step w v acks t made) ∙ sym (and-assoc (eqb v w) _ _)
-  takes-picked w (ack v r) made = refl
-  takes-picked w (late-ack v t i r) made = refl
-  takes-picked w (drop v r) made = refl
-  takes-picked w (join v r) made = refl
-  takes-picked w (start limit spacing first silent r) made = refl
-  takes-picked w (append e) made = refl
-
-  mains-picked : (c : Call) → Made h c → Picks mainRead isMain c
-  unfolding step
-  mains-picked (main i r) made = ap (λ n. eqb n 0) (shows-meets is (λ ns p. mainRule ns (i .0) p) made .answer)
-  mains-picked (catch v t i r) made = refl
-  mains-picked (written v t r) made = refl
-  mains-picked (send v lent r out) made = refl
-  mains-picked (take v acks t) made = refl
-  mains-picked (ack v r) made = refl
-  mains-picked (late-ack v t i r) made = refl
-  mains-picked (drop v r) made = refl
-  mains-picked (join v r) made = refl
-  mains-picked (start limit spacing first silent r) made = refl
-  mains-picked (append e) made = refl
+reads-agree : Agree reads Counting.reads
+reads-agree h wd is c = refl
 
 -- ------------------------------------------------------------------------
 -- A list of calls
 
-module _ (picks : Call → Host → Bool) (kind : World → Step → Bool)
-    (law : (h : Host) (wd : World) (is : Shows h wd) (c : Call) → Made h c → Picks is picks kind c) where
+module _ (kind : Host → Call → Bool) (kindIn : World → Step → Bool) (agree : Agree kind kindIn) where
   doneSince-steps : (n : ℕ) {h : Host} {wd : World} → Shows h wd → Reached wd → (cs : List Call) → MadeAll h cs →
-      doneSince picks n h cs ≡ Counting.doneSince kind n wd (map callStep cs)
+      doneSince kind n h cs ≡ Counting.doneSince kindIn n wd (map callStep cs)
   unfolding doneSince Counting.doneSince
   doneSince-steps n is r [] made = refl
   doneSince-steps n {h} {wd} is r (c ∷ cs) (first, rest) =
       let f = follows is r c first in
-      doneSince-steps (cond (begins c) 0 (cond (picks c h) (suc n) n)) (f .shows) (reached-step wd (callStep c) r) cs rest
-      ∙ ap (λ m. Counting.doneSince kind m (step (callStep c) wd .world) (map callStep cs))
-      (ap₂ (λ a b. cond a 0 (cond b (suc n) n)) (sym (f .anew)) (law h wd is c first))
+      doneSince-steps _ (f .shows) (reached-step wd (callStep c) r) cs rest
+      ∙ ap (λ m. Counting.doneSince kindIn m (step (callStep c) wd .world) (map callStep cs))
+      (ap₂ (λ d k. cond (begins (callSort c) d) 0 (cond (k && d) (suc n) n)) (sym (f .done)) (agree h wd is c))
 
 leftBy-shows : {g h : Host} {given wd : World} → Shows g given → Shows h wd → Reached wd → (cs : List Call) → MadeAll h cs →
     Shows (leftBy g h cs) (Counting.leftBy given wd (map callStep cs))
@@ -106,7 +56,7 @@ unfolding leftBy Counting.leftBy
 leftBy-shows left is r [] made = left
 leftBy-shows {g} {h} {given} {wd} left is r (c ∷ cs) (first, rest) =
     let f = follows is r c first in
-    leftBy-shows (rw (f .anew) (by (begins c) (f .shows))) (f .shows) (reached-step wd (callStep c) r) cs rest
+    leftBy-shows (rw (f .done) (by (begins (callSort c) (doneIn h c)) (f .shows))) (f .shows) (reached-step wd (callStep c) r) cs rest
   where
     by : (b : Bool) → Shows (after c h) (step (callStep c) wd .world) →
         Shows (cond b (after c h) g) (cond b (step (callStep c) wd .world) given)
@@ -146,18 +96,18 @@ module _ (count silent : ℕ) {h : Host} {wd : World} (is : Shows h wd) (reached
         (λ i. planRule (now-shown .journal i) w (last-shown w i) (limit-shown i)) ∙ d .asked w l ∙ ap planned (sym (figures-shown w));
     takes = λ joined none w l.
         let takes = d .takes (joined-shown count is reached calls made silent joined) (none-shown count is reached calls made none) w l in
-        let same = doneSince-steps (takenAt w) (isTakeOf w) (λ h wd is. takes-picked is w) 0 is reached calls made in
+        let same = doneSince-steps (takesOwn w) (Counting.takesOwn w) (takes-agree w) 0 is reached calls made in
         omega (arith, ap (λ f. f .entries) (figures-shown w));
     mains = λ joined none.
         let mains = d .mains (joined-shown count is reached calls made silent joined) (none-shown count is reached calls made none) in
-        let same = doneSince-steps mainRead isMain (λ h wd is. mains-picked is) 0 is reached calls made in
+        let same = doneSince-steps reads Counting.reads reads-agree 0 is reached calls made in
         omega (arith, read-shown, length-shown now-shown);
   }
 
 -- Document 02's counts of the calls, for every W, batch limit, spacing, first term, set of silent windows, journal and list of calls
 pub exact-counts-calls : ExactCountsCalls
-exact-counts-calls before ns count limit spacing first silent r made done calls all =
-    let begun = first-done before ns count limit spacing first silent r made done in
-    counts-shown count silent (opened-shows before ns count limit spacing first silent r made done)
-    (opened-reached (playerOf before) (entriesOf ns) count limit spacing first silent begun) calls all
-    (exact-counts (playerOf before) (entriesOf ns) count limit spacing first silent (map callStep calls) begun)
+exact-counts-calls before ns count settings r made done calls all =
+    let begun = first-done before ns count settings r made done in
+    counts-shown count (settings .silent) (opened-shows before ns count settings r made done)
+    (opened-reached (playerOf before) (entriesOf ns) count settings begun) calls all
+    (exact-counts (playerOf before) (entriesOf ns) count settings (map callStep calls) begun)

@@ -14,16 +14,18 @@ use Rattle.record.specs.declared.Record.{Record}
 use Rattle.record.specs.declared.Taken.{Taken}
 use Rattle.record.specs.Record.{newRecord, outcomeOf, takeNumbers}
 use Rattle.record.specs.Record as Take
+use Rattle.rules.specs.declared.Settings.{Settings}
 use Rattle.rules.specs.declared.Term.{Term}
 use Rattle.rules.specs.View.{WindowView}
-use Rattle.rules.specs.Window.{Report}
-use Rattle.rules.specs.Rules.{windowAt, mainRule, catchRule, writtenRule, ackRule, dropRule, joinRule, sendRule, sendOutput, said, startRule}
+use Rattle.rules.specs.Rules.{windowAt, mainRule, catchRule, writtenRule, ackRule, dropRule, joinRule, sendRule, sendOutput, startRule}
 use Rattle.window.specs.Promise.{numberOf}
 use Rattle.player.specs.declared.Player.{Player}
 use Rattle.player.specs.declared.Played.{Played}
 use Rattle.player.specs.View.{playerOf}
 use Rattle.player.specs.Promise.{Meets, Starts}
-use Rattle.delivery.specs.World.{Ack}
+use Rattle.delivery.specs.World.{Ack, Step}
+use Rattle.delivery.specs.World as W
+use Rattle.delivery.specs.Sorts.{Sort, sortOf}
 
 -- an entry or a tick on its way to a window: its five numbers as Send wrote them, the term of its batch, and whether it is the batch's last
 pub record Sent : Type 0 where
@@ -108,9 +110,9 @@ putOn batch d = withLines (d .line ++ batch) (d .back) d
 
 -- A call: what it was handed beside the player, record and journal, and then what it gave back. Send is lent an output and leaves `out`.
 -- Take is lent the front entry of its window's line, Ack is handed the front ack, Join the window's last index, and Start W and the last
--- index of each window that is not silent: the host has no choice there. It chooses the batch limit, the spacing, the first term and the
--- set of silent windows. A Take says whether it acks an entry that is not the last of its batch. `late-ack` is an Ack offer of an older
--- term. An append is the host's own.
+-- index of each window, of which that of a silent one is not looked at: the host has no choice there. It chooses the settings of a Start. A
+-- Take says whether it acks an entry that is not the last of its batch. `late-ack` is an Ack offer of an older term. An append is the host's
+-- own.
 pub data Call : Type 0 where
   main : (index : Index) (gave : Played) → Call
   catch : (w : ℕ) (t : Term) (index : Index) (gave : Played) → Call
@@ -121,8 +123,25 @@ pub data Call : Type 0 where
   late-ack : (w : ℕ) (t : Term) (index : Index) (gave : Played) → Call
   drop : (w : ℕ) (gave : Played) → Call
   join : (w : ℕ) (gave : Played) → Call
-  start : (limit spacing : ℕ) (first : Term) (silent : ℕ) (gave : Played) → Call
+  start : (settings : Settings) (gave : Played) → Call
   append : (e : Entry) → Call
+
+-- the step that a call makes, and its sort
+abbrev pub callStep : Call → Step
+callStep (main i r) = W.main (i .0)
+callStep (catch w t i r) = W.catch w t (i .0)
+callStep (written w t r) = W.written w t
+callStep (send w lent r out) = W.send w lent
+callStep (take w acks t) = W.take w acks
+callStep (ack w r) = W.ack w
+callStep (late-ack w t i r) = W.late-ack w t (i .0)
+callStep (drop w r) = W.drop w
+callStep (join w r) = W.join w
+callStep (start settings r) = W.start settings
+callStep (append e) = W.append e
+
+abbrev pub callSort : Call → Sort
+callSort c = sortOf (callStep c)
 
 -- the report of a window: the last index in its record
 abbrev pub reportOf : WindowEnd → ℕ
@@ -157,11 +176,11 @@ Made h (ack w r) = MadeAck w r (endAt w h .back) h
 Made h (late-ack w t i r) = (isLate w t h ≡ true) × (Meets (h .player) r (ackRule (h .journal) w t (i .0) (playerOf (h .player))))
 Made h (drop w r) = Meets (h .player) r (dropRule (h .journal) w (playerOf (h .player)))
 Made h (join w r) = Meets (h .player) r (joinRule (h .journal) w (reportOf (endAt w h)) (playerOf (h .player)))
-Made h (start limit spacing first silent r) =
-    let reports : List Report = said silent (map reportOf (h .windows)) in
-    (h .greatest < first .0)
-    × (Starts (h .player) (countOf (h .journal)) (length (h .windows)) limit spacing first reports r
-    (startRule (h .journal) (length (h .windows)) limit spacing first reports (playerOf (h .player))))
+Made h (start settings r) =
+    let reports : List ℕ = map reportOf (h .windows) in
+    (h .greatest < settings .first .0)
+    × (Starts (h .player) (countOf (h .journal)) (length (h .windows)) settings reports r
+    (startRule (h .journal) (length (h .windows)) settings reports (playerOf (h .player))))
 Made h (append e) = countOf (h .journal) < 65535
 
 -- ------------------------------------------------------------------------
@@ -170,6 +189,28 @@ Made h (append e) = countOf (h .journal) < 65535
 -- answered 0
 abbrev pub isDone : Played → Bool
 isDone r = eqb (numberOf (r .answer)) 0
+
+abbrev pub isTaken : Taken → Bool
+isTaken t = eqb (Take.numberOf (t .answer)) 0
+
+-- From an empty line no Take and no Ack is made, so none is answered 0.
+abbrev pub doneAtLine : {A : Type 0} → List A → Bool → Bool
+doneAtLine [] done = false
+doneAtLine (x ∷ rest) done = done
+
+-- whether a call is answered 0; an append is made
+abbrev pub doneIn : Host → Call → Bool
+doneIn h (main i r) = isDone r
+doneIn h (catch w t i r) = isDone r
+doneIn h (written w t r) = isDone r
+doneIn h (send w lent r out) = isDone r
+doneIn h (take w acks t) = doneAtLine (endAt w h .line) (isTaken t)
+doneIn h (ack w r) = doneAtLine (endAt w h .back) (isDone r)
+doneIn h (late-ack w t i r) = isDone r
+doneIn h (drop w r) = isDone r
+doneIn h (join w r) = isDone r
+doneIn h (start settings r) = isDone r
+doneIn h (append e) = true
 
 -- the player that a call gave back, and where it was answered 0 a change of the host after it
 abbrev pub called : Played → (Host → Host) → Host → Host
@@ -202,7 +243,7 @@ takeFront acks t (s ∷ rest) d = record {
   record′ = t .record;
   line = rest;
   back = cond (acks || s .ends) (d .back ++ (ackFor s ∷ [])) (d .back);
-  taken = cond (eqb (Take.numberOf (t .answer)) 0) (d .taken ++ (s .numbers ∷ [])) (d .taken);
+  taken = cond (isTaken t) (d .taken ++ (s .numbers ∷ [])) (d .taken);
 }
 
 -- Ack offers the front ack, which stays on the line if refused. From an empty line nothing changes
@@ -220,7 +261,7 @@ after (ack w r) h = ackFront w r (endAt w h .back) h
 after (late-ack w t i r) h = withPlayer (r .player) h
 after (drop w r) h = withPlayer (r .player) h
 after (join w r) h = called r (rejoined w) h
-after (start limit spacing first silent r) h = called r (restarted first) h
+after (start settings r) h = called r (restarted (settings .first)) h
 after (append e) h = record {
   player = h .player;
   journal = h .journal ++ numbersOf (e ∷ []);

@@ -7,43 +7,28 @@ use Rattle.lists.specs.Cases.{true-or-false}
 use Rattle.rules.specs.declared.Term.{Term}
 use Rattle.delivery.specs.World.{World, Step, step}
 use Rattle.delivery.specs.World as W
+use Rattle.delivery.specs.Sorts.{sortOf, isWork}
 use Rattle.delivery.specs.Statement as Delivery
 use Rattle.delivery.specs.Same.{sameWorld}
-use Rattle.delivery.specs.SameLaws.{sameWorld-itself}
-use Rattle.delivery.specs.Invariant.{Reached}
-use Rattle.calls.specs.Host.{Host, Call, main, catch, written, send, take, ack, late-ack, drop, join, start, append, isLate}
-use Rattle.calls.specs.Statement.{isWork, NoneCan}
+use Rattle.delivery.specs.Offers.{sameWorld-itself, Reached}
+use Rattle.calls.specs.Host.{Host, isLate}
+use Rattle.calls.specs.Statement.{NoneCan}
 use Rattle.calls.specs.Shows.{Shows, shows-late}
-use Rattle.calls.specs.Steps.{callStep}
 use Rattle.calls.specs.SameHosts.{sameHost-world}
 use Rattle.calls.specs.Runs.{follows}
 use Rattle.calls.specs.CallFor.{CallFor, call-main, call-catch, call-written, call-send, call-take, call-ack, call-late}
 
-isWork-step : (c : Call) → isWork c ≡ Delivery.isWork (callStep c)
-isWork-step (main i r) = refl
-isWork-step (catch w t i r) = refl
-isWork-step (written w t r) = refl
-isWork-step (send w lent r out) = refl
-isWork-step (take w acks t) = refl
-isWork-step (ack w r) = refl
-isWork-step (late-ack w t i r) = refl
-isWork-step (drop w r) = refl
-isWork-step (join w r) = refl
-isWork-step (start limit spacing first silent r) = refl
-isWork-step (append e) = refl
-
 module _ {h : Host} {wd : World} (is : Shows h wd) (r : Reached wd) (none : NoneCan h) where
   -- a step for which there is a call changes nothing, as the call does not
-  quiet : {s : Step} → CallFor h s → Delivery.isWork s ≡ true → sameWorld wd (step s wd .world) ≡ true
+  quiet : {s : Step} → CallFor h s → isWork (sortOf s) ≡ true → sameWorld wd (step s wd .world) ≡ true
   quiet {s} c work =
-      subst (λ s. Delivery.isWork s ≡ true → sameWorld wd (step s wd .world) ≡ true) (c .same)
-      (λ work.
-      sym (sameHost-world is (follows is r (c .call) (c .made) .shows)) ∙ none (c .call) (isWork-step (c .call) ∙ work) (c .made))
+      subst (λ s. isWork (sortOf s) ≡ true → sameWorld wd (step s wd .world) ≡ true) (c .same)
+      (λ work. sym (sameHost-world is (follows is r (c .call) (c .made) .shows)) ∙ none (c .call) work (c .made))
       work
 
   -- an Ack offer of a term that is not older is not made
   quiet-late : (w : ℕ) (t : Term) (i : ℕ) → sameWorld wd (step (W.late-ack w t i) wd .world) ≡ true
-  unfolding step
+  unfolding W.stepBy
   quiet-late w t i =
       ⊎-elim
       (λ (late : isLate w t h ≡ true). quiet (call-late h w t i late) refl)
@@ -60,5 +45,5 @@ module _ {h : Host} {wd : World} (is : Shows h wd) (r : Reached wd) (none : None
   none-steps (W.late-ack w t i) work = quiet-late w t i
   none-steps (W.drop w) work = absurd (false≢true work)
   none-steps (W.join w) work = absurd (false≢true work)
-  none-steps (W.start limit spacing first silent) work = absurd (false≢true work)
+  none-steps (W.start settings) work = absurd (false≢true work)
   none-steps (W.append e) work = absurd (false≢true work)

@@ -21,15 +21,10 @@ use Rattle.player.specs.Promise.{Meets}
 use Rattle.delivery.specs.World.{World, step, run}
 use Rattle.delivery.specs.World as W
 use Rattle.delivery.specs.Statement.{firstWorld}
-use Rattle.delivery.specs.Invariant.{Reached}
-use Rattle.delivery.specs.Reach.{reached-step, reached-run}
-use Rattle.delivery.specs.Demand3.{opened-reached}
-use Rattle.delivery.specs.OldTerms.{termAt, older-late, terms-above}
-use Rattle.delivery.specs.Worlds.{windows-in}
-use Rattle.calls.specs.Host.{Host, withPlayer, Call, catch, written, late-ack, start, after}
+use Rattle.delivery.specs.Offers.{Reached, reached-step, reached-run, opened-reached, termAt, older-late, terms-above, windows-in}
+use Rattle.calls.specs.Host.{Host, withPlayer, Call, catch, written, late-ack, start, callStep, after}
 use Rattle.calls.specs.Stragglers.{TurnedAway, Unmoved, StragglersCalls}
 use Rattle.calls.specs.Shows.{Shows, shows-held, shows-late}
-use Rattle.calls.specs.Steps.{callStep}
 use Rattle.calls.specs.Runs.{follows, hostAfter-shows}
 use Rattle.calls.specs.Demand3Calls.{opened-shows, first-done}
 
@@ -64,24 +59,23 @@ module _ (t : Term) (w : ℕ) (i : Index) {h : Host} {wd : World} (is : Shows h 
 
 -- Document 02's stragglers of the calls, for every list of calls, every Start in it and every term held before that
 pub stragglers-calls : StragglersCalls
-stragglers-calls before ns count limit spacing first silent r made done early between limit′ spacing′ first′ silent′ r′ later
-    made₁ made₂ made₃ again made₄ u l w i =
+stragglers-calls before ns count settings r made done early between again r′ later made₁ made₂ made₃ restarts made₄ u l w i =
     let p : PlayerView = playerOf before in
-    let wd₀ : World = firstWorld p (entriesOf ns) count limit spacing first silent in
-    let begun = first-done before ns count limit spacing first silent r made done in
-    let reached₀ : Reached wd₀ = opened-reached p (entriesOf ns) count limit spacing first silent begun in
-    let shows₁ = hostAfter-shows (opened-shows before ns count limit spacing first silent r made done) reached₀ early made₁ in
+    let wd₀ : World = firstWorld p (entriesOf ns) count settings in
+    let begun = first-done before ns count settings r made done in
+    let reached₀ : Reached wd₀ = opened-reached p (entriesOf ns) count settings begun in
+    let shows₁ = hostAfter-shows (opened-shows before ns count settings r made done) reached₀ early made₁ in
     let had : World = run wd₀ (map callStep early) in
     let reached₁ : Reached had = reached-run wd₀ (map callStep early) reached₀ in
     let shows₂ = hostAfter-shows shows₁ reached₁ between made₂ in
     let wd₂ : World = run had (map callStep between) in
     let reached₂ : Reached wd₂ = reached-run had (map callStep between) reached₁ in
-    let f = follows shows₂ reached₂ (start limit′ spacing′ first′ silent′ r′) made₃ in
-    let wd₃ : World = step (W.start limit′ spacing′ first′ silent′) wd₂ .world in
-    let reached₃ : Reached wd₃ = reached-step wd₂ (W.start limit′ spacing′ first′ silent′) reached₂ in
+    let f = follows shows₂ reached₂ (start again r′) made₃ in
+    let wd₃ : World = step (W.start again) wd₂ .world in
+    let reached₃ : Reached wd₃ = reached-step wd₂ (W.start again) reached₂ in
     let now : World = run wd₃ (map callStep later) in
     let shows₄ = hostAfter-shows (f .shows) reached₃ later made₄ in
-    let above = terms-above p (entriesOf ns) count limit spacing first silent (map callStep early) (map callStep between)
-    limit′ spacing′ first′ silent′ (map callStep later) begun (f .anew ∙ eq-eqb (numberOf (r′ .answer)) 0 again) u l in
+    let above = terms-above p (entriesOf ns) count settings (map callStep early) (map callStep between) again (map callStep later) begun
+    (f .done ∙ eq-eqb (numberOf (r′ .answer)) 0 restarts) u l in
     unmoved _ w i shows₄ (reached-run wd₃ (map callStep later) reached₃)
     (λ v k. subst (λ x. x .term .0 < termAt v now) (sym (shows-held shows₁ u)) (above v k))

@@ -3,29 +3,24 @@ use mathlib.Core.Path.{_≡_, refl, sym, ap, ap₂, _∙_}
 use mathlib.Core.List.{List, [], _∷_, map}
 use mathlib.Core.Bool.{Bool, true, false, _&&_, and-assoc, and-true}
 use lib.Dec.{eqb}
+use Rattle.lists.specs.Same.{sameList}
+use Rattle.lists.specs.SameLaws.{sameList-map}
+use Rattle.record.specs.Same.{sameRecord}
 use Rattle.rules.specs.View.{PlayerView}
 use Rattle.delivery.specs.World.{Side, World, playerIn}
 use Rattle.delivery.specs.World as W
-use Rattle.delivery.specs.Same.{sameList, sameWindow, sameRecord, sameEntry, sameAck, sameSide, sameWorld}
+use Rattle.delivery.specs.Same.{sameWindow, sameEntry, sameAck, sameSide, sameWorld}
 use Rattle.delivery.specs.Same as Delivery
 use Rattle.calls.specs.Host.{Sent, WindowEnd, Host}
 use Rattle.calls.specs.Statement.{sameSent, sameEnd, sameHost}
 use Rattle.calls.specs.Shows.{inNumbers, endOf, Shows}
 
 -- ------------------------------------------------------------------------
--- sameSent, sameList
+-- sameSent
 
 sameSent-inNumbers : (a b : W.Sent) → sameSent (inNumbers a) (inNumbers b) ≡ Delivery.sameSent a b
 unfolding sameSent Delivery.sameSent sameEntry sameList
 sameSent-inNumbers a b = simp (and-assoc, and-true)
-
-sameList-map : {A B : Type 0} (f : A → A → Bool) (g : B → B → Bool) (k : B → A) → ((a b : B) → f (k a) (k b) ≡ g a b) →
-    (xs ys : List B) → sameList f (map k xs) (map k ys) ≡ sameList g xs ys
-unfolding sameList
-sameList-map f g k e [] [] = refl
-sameList-map f g k e [] (y ∷ ys) = refl
-sameList-map f g k e (x ∷ xs) [] = refl
-sameList-map f g k e (x ∷ xs) (y ∷ ys) = ap₂ _&&_ (e x y) (sameList-map f g k e xs ys)
 
 -- ------------------------------------------------------------------------
 -- A side is what the player holds for the window, and the window's end

@@ -17,9 +17,7 @@ use Rattle.rules.specs.View.{Condition, normal, fetching, completed, suspended,
 use Rattle.rules.specs.Rules.{Outcome, windowAt, sendRule, sentFor, batchNumbers, batchAt, sendOutput}
 use Rattle.rules.specs.Offers.{shaped, operated-at, readyOf, batchOf-ready, batchOf-untouched, launched-is, sentFor-index, sendRule-done}
 use Rattle.delivery.specs.World.{Side, World, sideAt, numbersIn, playerIn, onLine}
-use Rattle.delivery.specs.Invariant.{QueuesOf, Inv, Reached}
-use Rattle.delivery.specs.Reach.{read-in}
-use Rattle.delivery.specs.Worlds.{entries-in, window-in, windows-in}
+use Rattle.delivery.specs.Offers.{QueuesOf, Inv, Reached, read-in, entries-in, window-in, windows-in}
 use Rattle.calls.specs.Host.{batchIn}
 use Rattle.calls.specs.Shows.{inNumbers}
 

@@ -19,7 +19,7 @@ use Rattle.player.specs.View.{playerOf}
 use Rattle.player.specs.Promise.{Meets}
 use Rattle.delivery.specs.World.{Side, World, noSide, sideAt, numbersIn, playerIn, withViews, withSide, calledThen}
 use Rattle.delivery.specs.World as W
-use Rattle.delivery.specs.Worlds.{window-in, withPlayer-player, withSide-player, withWindow-same}
+use Rattle.delivery.specs.Offers.{window-in, withPlayer-player, withSide-player, withWindow-same}
 use Rattle.calls.specs.Host.{Sent, WindowEnd, Host, endAt, heldFor, isLate, withPlayer, withEnd, changed, raised, called}
 
 -- an entry on a world's line in five numbers, as the host holds it

@@ -2,7 +2,7 @@
 use Prim.Native.Nat.{ℕ, suc, _+_, _*_, _≤_, _<_}
 use mathlib.Core.Path.{_≡_}
 use mathlib.Core.List.{List, [], _∷_, map}
-use mathlib.Core.Bool.{Bool, true, false, cond, _&&_, _||_}
+use mathlib.Core.Bool.{Bool, true, cond, _&&_, _||_}
 use lib.ListN.{length, take}
 use lib.Dec.{eqb}
 use Rattle.journal.specs.Entry.{countOf, entriesOf, hasWindow, fiveOf}
@@ -10,21 +10,22 @@ use Rattle.journal.specs.Own.{own}
 use Rattle.lists.specs.All.{all}
 use Rattle.lists.specs.Elem.{lastOr}
 use Rattle.lists.specs.Keep.{keep}
+use Rattle.lists.specs.Same.{sameBool, sameList}
 use Rattle.record.specs.declared.Record.{Record}
 use Rattle.record.specs.Record.{newRecord, takeNumbers, takeAll}
-use Rattle.rules.specs.declared.Term.{Term}
+use Rattle.record.specs.Same.{sameRecord}
+use Rattle.rules.specs.declared.Settings.{Settings}
 use Rattle.rules.specs.View.{PlayerView}
-use Rattle.rules.specs.Window.{Report}
 use Rattle.rules.specs.Rules.{speaks, startRule}
 use Rattle.window.specs.Promise.{numberOf}
 use Rattle.player.specs.declared.Player.{Player}
 use Rattle.player.specs.declared.Played.{Played}
 use Rattle.player.specs.View.{playerOf}
 use Rattle.player.specs.Promise.{Starts}
+use Rattle.delivery.specs.Sorts.{begins, joinedBy, isWork}
 use Rattle.delivery.specs.Statement.{newReports}
-use Rattle.delivery.specs.Same.{sameBool, sameList, sameWindow, sameRecord, sameAck}
-use Rattle.calls.specs.Host.{Sent, indexOf, setOf, WindowEnd, Host, endAt, Call, main, catch, written, send, ack, late-ack, drop, join, start, append, Made, isDone, after, MadeAll, hostAfter, opened}
-use Rattle.calls.specs.Host as H
+use Rattle.delivery.specs.Same.{sameWindow, sameAck}
+use Rattle.calls.specs.Host.{Sent, indexOf, setOf, WindowEnd, Host, endAt, Call, callSort, Made, doneIn, after, MadeAll, hostAfter, opened}
 
 -- ------------------------------------------------------------------------
 -- Whether two hosts look the same: the player's state, the records and the lines, and nothing else
@@ -47,65 +48,27 @@ sameHost a b =
     && (sameList sameWindow (p .windows) (q .windows) && sameList sameEnd (a .windows) (b .windows))))
 
 -- ------------------------------------------------------------------------
--- Counts and conditions of a list of calls
-
--- A fault is any Drop, Join or Start that is answered 0. The count of changing calls begins anew at a fault and at an append.
-abbrev pub begins : Call → Bool
-begins (main i r) = false
-begins (catch w t i r) = false
-begins (written w t r) = false
-begins (send w lent r out) = false
-begins (H.take w acks t) = false
-begins (ack w r) = false
-begins (late-ack w t i r) = false
-begins (drop w r) = isDone r
-begins (join w r) = isDone r
-begins (start limit spacing first silent r) = isDone r
-begins (append e) = true
+-- Counts and conditions of a list of calls. What begins a count anew, who is joined and what is work is said of the sort of a call
 
 -- The number of calls since the last fault or append that changed something: the player's state, a record or a line differs after it.
 -- n of them are counted before the list.
 unfoldable pub changes : ℕ → Host → List Call → ℕ
 changes n h [] = n
-changes n h (c ∷ cs) = changes (cond (begins c) 0 (cond (sameHost h (after c h)) n (suc n))) (after c h) cs
-
--- A window is joined if the newest Start answered 0, or a Join answered 0 since, took its report and no Drop answered 0 followed.
-abbrev pub joinedBy : ℕ → Call → Bool → Bool
-joinedBy w (main i r) b = b
-joinedBy w (catch v t i r) b = b
-joinedBy w (written v t r) b = b
-joinedBy w (send v lent r out) b = b
-joinedBy w (H.take v acks t) b = b
-joinedBy w (ack v r) b = b
-joinedBy w (late-ack v t i r) b = b
-joinedBy w (drop v r) b = cond (isDone r) (cond (eqb v w) false b) b
-joinedBy w (join v r) b = cond (isDone r) (cond (eqb v w) true b) b
-joinedBy w (start limit spacing first silent r) b = cond (isDone r) (speaks silent w) b
-joinedBy w (append e) b = b
+changes n h (c ∷ cs) = changes (cond (begins (callSort c) (doneIn h c)) 0 (cond (sameHost h (after c h)) n (suc n))) (after c h) cs
 
 -- whether window w is joined after the list, where it was or was not before
-unfoldable pub joinedAfter : ℕ → Bool → List Call → Bool
-joinedAfter w b [] = b
-joinedAfter w b (c ∷ cs) = joinedAfter w (joinedBy w c b) cs
+unfoldable pub joinedAfter : ℕ → Bool → Host → List Call → Bool
+joinedAfter w b h [] = b
+joinedAfter w b h (c ∷ cs) = joinedAfter w (joinedBy w (callSort c) (doneIn h c) b) (after c h) cs
 
--- Main, Catch, Send, Written, Take and Ack, with any arguments that the list might go on with
-abbrev pub isWork : Call → Bool
-isWork (main i r) = true
-isWork (catch w t i r) = true
-isWork (written w t r) = true
-isWork (send w lent r out) = true
-isWork (H.take w acks t) = true
-isWork (ack w r) = true
-isWork (late-ack w t i r) = true
-isWork (drop w r) = false
-isWork (join w r) = false
-isWork (start limit spacing first silent r) = false
-isWork (append e) = false
+-- all of W windows are joined after the list, from a Start answered 0 with this set of silent windows
+abbrev pub AllJoined : (count silent : ℕ) → Host → List Call → Type 0
+AllJoined count silent h calls = (w : ℕ) → w < count → joinedAfter w (speaks silent w) h calls ≡ true
 
 -- "None can": no Main, Catch, Send, Written, Take or Ack that the list might go on with would change anything, whatever it gives that meets
 -- its promise
 abbrev pub NoneCan : Host → Type 0
-NoneCan h = (c : Call) → isWork c ≡ true → Made h c → sameHost h (after c h) ≡ true
+NoneCan h = (c : Call) → isWork (callSort c) ≡ true → Made h c → sameHost h (after c h) ≡ true
 
 -- ------------------------------------------------------------------------
 -- What a window has taken, five numbers each
@@ -148,24 +111,22 @@ pub record Delivers (count silent : ℕ) (h : Host) (calls : List Call) : Type 0
   -- every window has taken a leading part of its own entries, once each and in order, and ticks among them
   pub leading : (w : ℕ) → w < count → Leading (hostAfter h calls .journal) w (endAt w (hostAfter h calls))
   -- with all windows joined, at most L × (1 + 5 × W) calls since the last fault or append changed anything
-  pub bound : ((w : ℕ) → w < count → joinedAfter w (speaks silent w) calls ≡ true) →
-      changes 0 h calls ≤ countOf (hostAfter h calls .journal) * (1 + 5 * count)
+  pub bound : AllJoined count silent h calls → changes 0 h calls ≤ countOf (hostAfter h calls .journal) * (1 + 5 * count)
   -- with all windows joined, when none can, every window has taken all of its own entries
-  pub finish : ((w : ℕ) → w < count → joinedAfter w (speaks silent w) calls ≡ true) → NoneCan (hostAfter h calls) →
+  pub finish : AllJoined count silent h calls → NoneCan (hostAfter h calls) →
       (w : ℕ) → w < count → ownFives w (endAt w (hostAfter h calls) .taken) ≡ map fiveOf (own (entriesOf (hostAfter h calls .journal)) w)
 
 -- what the first Start gives meets its promise: it is handed the reports of new windows, and whatever player there was before
-abbrev pub FirstStart : Player → List ℕ → (count limit spacing : ℕ) → Term → (silent : ℕ) → Played → Type 0
-FirstStart before ns count limit spacing first silent r =
-    let reports : List Report = newReports silent count in
-    Starts before (countOf ns) count limit spacing first reports r (startRule ns count limit spacing first reports (playerOf before))
+abbrev pub FirstStart : Player → List ℕ → (count : ℕ) → Settings → Played → Type 0
+FirstStart before ns count settings r =
+    Starts before (countOf ns) count settings (newReports count) r (startRule ns count settings (newReports count) (playerOf before))
 
 -- Demand 3 of the calls. The list starts from new windows, empty lines, any journal and a Start answered 0. W, the batch limit, the
 -- spacing, the first term, the silent windows and the journal are any that this Start takes, and the calls are any that meet their
 -- promises.
 abbrev pub Demand3Calls : Type 0
 Demand3Calls =
-    (before : Player) (ns : List ℕ) (count limit spacing : ℕ) (first : Term) (silent : ℕ) (r : Played) →
-    FirstStart before ns count limit spacing first silent r → numberOf (r .answer) ≡ 0 →
-    (calls : List Call) → MadeAll (opened (r .player) first ns count) calls →
-    Delivers count silent (opened (r .player) first ns count) calls
+    (before : Player) (ns : List ℕ) (count : ℕ) (settings : Settings) (r : Played) →
+    FirstStart before ns count settings r → numberOf (r .answer) ≡ 0 →
+    (calls : List Call) → MadeAll (opened (r .player) (settings .first) ns count) calls →
+    Delivers count (settings .silent) (opened (r .player) (settings .first) ns count) calls

@@ -14,18 +14,18 @@ use Rattle.journal.specs.Entry.{Placed, fiveOf}
 use Rattle.record.specs.declared.Taken.{Taken}
 use Rattle.record.specs.Record.{takeNumbers}
 use Rattle.record.specs.Record as Take
+use Rattle.rules.specs.declared.Settings.{Settings}
 use Rattle.rules.specs.declared.Term.{Term}
-use Rattle.rules.specs.Window.{Report}
-use Rattle.rules.specs.Rules.{Outcome, windowAt, ackRule, joinRule, sendRule, sendOutput, batchAt, said, startRule}
+use Rattle.rules.specs.Rules.{Outcome, windowAt, ackRule, joinRule, sendRule, sendOutput, batchAt, startRule}
 use Rattle.rules.specs.Offers.{sendRule-lawful, ackRule-lawful, joinRule-lawful, startRule-done, startRule-refuses}
 use Rattle.player.specs.declared.Played.{Played}
 use Rattle.player.specs.View.{playerOf}
 use Rattle.player.specs.Promise.{Meets}
 use Rattle.delivery.specs.World.{Ack, Side, World, noSide, sideAt, numbersIn, playerIn, onLine, takeAtLine, ackAtLine, reportsIn, step}
 use Rattle.delivery.specs.World as W
-use Rattle.delivery.specs.Invariant.{Reached, lastOf}
-use Rattle.delivery.specs.Worlds.{windows-in}
-use Rattle.calls.specs.Host.{Sent, Host, newEnd, endAt, withEnd, withLines, cleared, clearedAll, rejoined, restarted, putOn, send, take, ack, join, start, reportOf, MadeTake, MadeAck, Made, batchIn, batchTo, takeFront, ackFront, after}
+use Rattle.delivery.specs.Sorts as Delivery
+use Rattle.delivery.specs.Offers.{Reached, lastOf, windows-in}
+use Rattle.calls.specs.Host.{Sent, Host, newEnd, endAt, withEnd, withLines, cleared, clearedAll, rejoined, restarted, putOn, send, take, ack, join, start, reportOf, MadeTake, MadeAck, Made, isDone, isTaken, doneAtLine, batchIn, batchTo, takeFront, ackFront, after}
 use Rattle.calls.specs.Shows.{inNumbers, endOf, Shows, Gives, shows-count, shows-end, shows-held, shows-rule, shows-meets, shows-side, shows-raised, shows-called, shows-lines, shows-changed}
 use Rattle.calls.specs.Sends.{sendOutput-onLine}
 use Rattle.calls.specs.Steps.{Follows, count-sides, answer-same}
@@ -47,7 +47,7 @@ unfolding W.takeFront
 takeFront-end p acks s rest t made =
     let back : List Ack = cond (acks || s .ends) (p .back ++ (record { term = s .term; index = s .placed .index } ∷ [])) (p .back) in
     ap (λ l. record { record′ = t .record; line = map inNumbers rest; back = back; taken = l })
-    (taken-more (p .taken) (s .placed) (eqb (Take.numberOf (t .answer)) 0))
+    (taken-more (p .taken) (s .placed) (isTaken t))
     ∙ ap (λ o. record {
       record′ = o .record′;
       line = map inNumbers rest;
@@ -77,8 +77,14 @@ module _ {h : Host} {wd : World} (is : Shows h wd) where
   take-line w acks t (s ∷ rest) made =
       shows-side is w _ (W.takeFront acks s rest (sideAt w wd)) (takeFront-end (sideAt w wd) acks s rest t made) refl
 
+  -- answered 0 in both, or in neither
+  take-done : (w : ℕ) (acks : Bool) (t : Taken) (l : List W.Sent) → MadeTake t (map inNumbers l) (sideAt w wd .record′) →
+      Delivery.isDone (takeAtLine w acks l wd .reply) ≡ doneAtLine (map inNumbers l) (isTaken t)
+  take-done w acks t [] made = refl
+  take-done w acks t (s ∷ rest) made = ap (λ o. eqb (o .number) 0) (sym made)
+
   pub follows-take : (w : ℕ) (acks : Bool) (t : Taken) → Made h (take w acks t) → Follows (take w acks t) h wd
-  unfolding step after
+  unfolding W.stepBy after
   follows-take w acks t made =
       let p : Side = sideAt w wd in
       let made′ : MadeTake t (map inNumbers (p .line)) (p .record′) =
@@ -90,9 +96,14 @@ module _ {h : Host} {wd : World} (is : Shows h wd) where
       (subst (λ p. Shows (withEnd w (endOf p) h) wd) (sideAt-none wd w n) (end-same w)))
       (λ (n : w < length (wd .sides)). rw (lt-ltb w (length (wd .sides)) n) (take-line w acks t (p .line) made′))
       (le-or-lt (length (wd .sides)) w) in
+      let done : Delivery.isDone (step (W.take w acks) wd .reply) ≡ doneAtLine (map inNumbers (p .line)) (isTaken t)
+      = ⊎-elim
+      (λ (n : length (wd .sides) ≤ w). rw (le-ltb w (length (wd .sides)) n, sideAt-none wd w n))
+      (λ (n : w < length (wd .sides)). rw (lt-ltb w (length (wd .sides)) n) (take-done w acks t (p .line) made′))
+      (le-or-lt (length (wd .sides)) w) in
       record {
         shows = subst (λ d. Shows (withEnd w (takeFront acks t (d .line) d) h) (step (W.take w acks) wd .world)) (sym (shows-end is w)) at;
-        anew = refl;
+        done = done ∙ ap (λ d. doneAtLine (d .line) (isTaken t)) (sym (shows-end is w));
       }
 
   -- ------------------------------------------------------------------------
@@ -105,8 +116,13 @@ module _ {h : Host} {wd : World} (is : Shows h wd) where
       (λ p. W.withLines (p .line) rest p) (shows-meets is (λ ns p. ackRule ns w (a .term) (a .index) p) made)
       (count-sides is (ackRule-lawful (numbersIn wd) w (a .term) (a .index) (playerIn wd))) (λ z p. refl) (λ p. refl)
 
+  ack-done : (w : ℕ) (r : Played) (b : List Ack) → MadeAck w r b h →
+      Delivery.isDone (ackAtLine w b wd .reply) ≡ doneAtLine b (isDone r)
+  ack-done w r [] made = refl
+  ack-done w r (a ∷ rest) made = answer-same is _ (shows-meets is (λ ns p. ackRule ns w (a .term) (a .index) p) made)
+
   pub follows-ack : (w : ℕ) (r : Played) → Made h (ack w r) → Follows (ack w r) h wd
-  unfolding step after
+  unfolding W.stepBy after
   follows-ack w r made =
       let b : List Ack = sideAt w wd .back in
       let back : endAt w h .back ≡ b = ap (λ d. d .back) (shows-end is w) in
@@ -116,13 +132,21 @@ module _ {h : Host} {wd : World} (is : Shows h wd) where
       (λ (n : length (wd .sides) ≤ w). rw (le-ltb w (length (wd .sides)) n, sideAt-none wd w n) is)
       (λ (n : w < length (wd .sides)). rw (lt-ltb w (length (wd .sides)) n) (ack-line w r b made′))
       (le-or-lt (length (wd .sides)) w) in
-      record { shows = subst (λ b. Shows (ackFront w r b h) (step (W.ack w) wd .world)) (sym back) at; anew = refl }
+      let done : Delivery.isDone (step (W.ack w) wd .reply) ≡ doneAtLine b (isDone r)
+      = ⊎-elim
+      (λ (n : length (wd .sides) ≤ w). rw (le-ltb w (length (wd .sides)) n, sideAt-none wd w n))
+      (λ (n : w < length (wd .sides)). rw (lt-ltb w (length (wd .sides)) n) (ack-done w r b made′))
+      (le-or-lt (length (wd .sides)) w) in
+      record {
+        shows = subst (λ b. Shows (ackFront w r b h) (step (W.ack w) wd .world)) (sym back) at;
+        done = done ∙ ap (λ b. doneAtLine b (isDone r)) (sym back);
+      }
 
   -- ------------------------------------------------------------------------
   -- Join
 
   pub follows-join : (w : ℕ) (r : Played) → Made h (join w r) → Follows (join w r) h wd
-  unfolding step after
+  unfolding W.stepBy after
   follows-join w r made =
       let report : ℕ = lastOf (sideAt w wd) in
       let k = shows-meets is (λ ns p. joinRule ns w report p)
@@ -133,7 +157,7 @@ module _ {h : Host} {wd : World} (is : Shows h wd) where
             (count-sides is (joinRule-lawful (numbersIn wd) w report (playerIn wd)))
             (λ z is′.
             shows-raised (shows-lines is′ w cleared W.cleared (λ p. refl) (λ p. refl)) _ _ (ap (λ v. v .term) (shows-held is′ w)));
-        anew = answer-same is _ k;
+        done = answer-same is _ k;
       }
 
   -- ------------------------------------------------------------------------
@@ -141,7 +165,7 @@ module _ {h : Host} {wd : World} (is : Shows h wd) where
 
   pub follows-send : Reached wd → (w : ℕ) (lent : List ℕ) (r : Played) (out : List ℕ) → Made h (send w lent r out) →
       Follows (send w lent r out) h wd
-  unfolding step after
+  unfolding W.stepBy after
   follows-send reached w lent r out (made, wrote) =
       let o : Outcome = sendRule (numbersIn wd) w (length lent) (playerIn wd) in
       let k : Gives r o = shows-meets is (λ ns p. sendRule ns w (length lent) p) made in
@@ -159,7 +183,7 @@ module _ {h : Host} {wd : World} (is : Shows h wd) where
             ap (λ l. withLines l (p .back) (endOf p))
             (ap (λ b. map inNumbers (p .line) ++ b) (read z) ∙ sym (map-append inNumbers (p .line) batch)))
             (λ p. refl);
-        anew = refl;
+        done = answer-same is _ k;
       }
 
 -- ------------------------------------------------------------------------
@@ -177,36 +201,34 @@ shows-cleared {h} {wd} is = record {
 }
 
 module _ {h : Host} {wd : World} (is : Shows h wd) where
-  start-count : (limit spacing : ℕ) (first : Term) (silent : ℕ) →
-      length (startRule (numbersIn wd) (length (wd .sides)) limit spacing first (said silent (reportsIn wd)) (playerIn wd) .next .windows)
-      ≡ length (wd .sides)
-  start-count limit spacing first silent =
-      let rs : List Report = said silent (reportsIn wd) in
-      let o : Outcome = startRule (numbersIn wd) (length (wd .sides)) limit spacing first rs (playerIn wd) in
-      ⊎-elim
-      (λ (e : o .answer ≡ 0).
-      startRule-done (numbersIn wd) (length (wd .sides)) limit spacing first rs (playerIn wd) e .windows)
-      (λ (n : o .answer ≡ 0 → ⊥).
-      ap (λ q. length (q .windows)) (startRule-refuses (numbersIn wd) (length (wd .sides)) limit spacing first rs (playerIn wd) n)
-      ∙ windows-in wd)
-      (eq-or-ne (o .answer) 0)
+  abbrev startsIn : Settings → Outcome
+  startsIn settings = startRule (numbersIn wd) (length (wd .sides)) settings (reportsIn wd) (playerIn wd)
 
-  pub follows-start : (limit spacing : ℕ) (first : Term) (silent : ℕ) (r : Played) → Made h (start limit spacing first silent r) →
-      Follows (start limit spacing first silent r) h wd
-  unfolding step after
-  follows-start limit spacing first silent r (high, made) =
+  start-count : (settings : Settings) → length (startsIn settings .next .windows) ≡ length (wd .sides)
+  start-count settings =
+      ⊎-elim
+      (λ (e : startsIn settings .answer ≡ 0).
+      startRule-done (numbersIn wd) (length (wd .sides)) settings (reportsIn wd) (playerIn wd) e .windows)
+      (λ (n : startsIn settings .answer ≡ 0 → ⊥).
+      ap (λ q. length (q .windows)) (startRule-refuses (numbersIn wd) (length (wd .sides)) settings (reportsIn wd) (playerIn wd) n)
+      ∙ windows-in wd)
+      (eq-or-ne (startsIn settings .answer) 0)
+
+  pub follows-start : (settings : Settings) (r : Played) → Made h (start settings r) → Follows (start settings r) h wd
+  unfolding W.stepBy after
+  follows-start settings r (high, made) =
+      let first : Term = settings .first in
       let above : wd .greatest < first .0 = omega (arith, high, is .greatest) in
       let n : ℕ = length (wd .sides) in
-      let rs : List Report = said silent (reportsIn wd) in
       let reports : map reportOf (h .windows) ≡ reportsIn wd = ap (map reportOf) (is .windows) ∙ map-map reportOf endOf (wd .sides) in
-      let k = shows-rule is (λ ns p. startRule ns n limit spacing first rs p)
-      (subst₂ (λ n rs. Gives r (startRule (h .journal) n limit spacing first (said silent rs) (playerOf (h .player))))
+      let k = shows-rule is (λ ns p. startRule ns n settings (reportsIn wd) p)
+      (subst₂ (λ n rs. Gives r (startRule (h .journal) n settings rs (playerOf (h .player))))
       (shows-count is) reports
       (record { answer = made .answer; next = made .next })) in
       record {
         shows =
             rw (lt-ltb (wd .greatest) (first .0) above)
-            (shows-called is r (startRule (numbersIn wd) n limit spacing first rs (playerIn wd)) (restarted first) (W.restarted first) k
-            (start-count limit spacing first silent) (λ z is′. shows-raised (shows-cleared is′) first first refl));
-        anew = rw (lt-ltb (wd .greatest) (first .0) above) (answer-same is _ k);
+            (shows-called is r (startsIn settings) (restarted first) (W.restarted first) k
+            (start-count settings) (λ z is′. shows-raised (shows-cleared is′) first first refl));
+        done = rw (lt-ltb (wd .greatest) (first .0) above) (answer-same is _ k);
       }

@@ -4,6 +4,7 @@ use mathlib.Core.Path.{_≡_}
 use mathlib.Core.List.{List}
 use mathlib.Core.Bool.{true}
 use Rattle.journal.specs.declared.Index.{Index}
+use Rattle.rules.specs.declared.Settings.{Settings}
 use Rattle.rules.specs.declared.Term.{Term}
 use Rattle.rules.specs.Refusals.{turnedAway}
 use Rattle.window.specs.Promise.{numberOf}
@@ -31,13 +32,14 @@ pub record Unmoved (t : Term) (w : ℕ) (i : Index) (h : Host) : Type 0 where
 -- nothing then, whatever its window and index. The newest Start answered 0 is one such Start.
 abbrev pub StragglersCalls : Type 0
 StragglersCalls =
-    (before : Player) (ns : List ℕ) (count limit spacing : ℕ) (first : Term) (silent : ℕ) (r : Played) →
-    FirstStart before ns count limit spacing first silent r → numberOf (r .answer) ≡ 0 →
-    (early between : List Call) (limit′ spacing′ : ℕ) (first′ : Term) (silent′ : ℕ) (r′ : Played) (later : List Call) →
-    let had : Host = hostAfter (opened (r .player) first ns count) early in
-    let again : Call = start limit′ spacing′ first′ silent′ r′ in
-    let begun : Host = after again (hostAfter had between) in
+    (before : Player) (ns : List ℕ) (count : ℕ) (settings : Settings) (r : Played) →
+    FirstStart before ns count settings r → numberOf (r .answer) ≡ 0 →
+    (early between : List Call) (again : Settings) (r′ : Played) (later : List Call) →
+    let first : Host = opened (r .player) (settings .first) ns count in
+    let had : Host = hostAfter first early in
+    let restart : Call = start again r′ in
+    let begun : Host = after restart (hostAfter had between) in
     let now : Host = hostAfter begun later in
-    MadeAll (opened (r .player) first ns count) early → MadeAll had between →
-    Made (hostAfter had between) again → numberOf (r′ .answer) ≡ 0 → MadeAll begun later →
+    MadeAll first early → MadeAll had between →
+    Made (hostAfter had between) restart → numberOf (r′ .answer) ≡ 0 → MadeAll begun later →
     (u : ℕ) → u < count → (w : ℕ) (i : Index) → Unmoved (heldFor u (had .player) .term) w i now

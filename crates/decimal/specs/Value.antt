@@ -113,7 +113,8 @@ unfolding leadDigits
 leadDigits-rest [] = refl
 leadDigits-rest (b ∷ s) = go (isDigit b) refl (leadDigits-rest s)
   where
-    go : (t : Bool) → isDigit b ≡ t → leadDigits (drop (length (leadDigits s)) s) ≡ [] → leadDigits (drop (length (leadDigits (b ∷ s))) (b ∷ s)) ≡ []
+    go : (t : Bool) → isDigit b ≡ t → leadDigits (drop (length (leadDigits s)) s) ≡ []
+        → leadDigits (drop (length (leadDigits (b ∷ s))) (b ∷ s)) ≡ []
     go true e ih = simp (leadDigits-digit b s e) ih
     go false e ih = simp (leadDigits-other b s e)
 

@@ -10,14 +10,16 @@ use native.Mathlib.Nat.{mul-add, mul-one, mul-suc, mul-assoc, mul-comm}
 use lib.ListN.{length, getD, set}
 use Rattle.journal.specs.declared.Entry.{Entry}
 use Rattle.rules.specs.View.{Condition, normal, fetching, completed, suspended}
-use Rattle.delivery.specs.World.{Side, World, noSide, sideAt, Step, main, catch, written, send, take, ack, late-ack, drop, join, start, append, Reply, step, run}
+use Rattle.delivery.specs.World.{Side, World, noSide, sideAt, Step, step, run, runBy}
+use Rattle.delivery.specs.Sorts.{isDone, Sort, mains, takes, otherWork, drops, joins, starts, appends, sortOf, begins, isWork}
 use Rattle.delivery.specs.Same.{sameWorld}
 use Rattle.delivery.specs.SameLaws.{sameWorld-itself}
-use Rattle.delivery.specs.Statement.{begins, changes, isWork, NoneCan}
+use Rattle.delivery.specs.Statement.{changes, changesBy, NoneCan}
 use Rattle.delivery.specs.Invariant.{QueuesOf, Inv, Reached}
 use Rattle.delivery.specs.Measure.{ahead, busyOf, sideWork, main-work, worked-lowers}
-use Rattle.delivery.specs.Effects.{Work, stays, mains, works, work-journal, work-count}
-use Rattle.delivery.specs.Reach.{read-in, few-in, reached-step, begun-or-working}
+use Rattle.delivery.specs.Effects.{Work, idles, reads, serves}
+use Rattle.delivery.specs.Moves.{step-count, begun-or-working}
+use Rattle.delivery.specs.Reach.{read-in, few-in, reached-step}
 
 -- ------------------------------------------------------------------------
 -- a sum over sides
@@ -83,19 +85,20 @@ workLeft-most wd r =
 -- ------------------------------------------------------------------------
 -- a piece of work lowers it
 
-pub work-lowers : {s : Step} {reply : Reply} (wd wd′ : World) → Reached wd → Work s reply wd wd′ → (wd′ ≡ wd) ⊎ (workLeft wd′ < workLeft wd)
+pub work-lowers : {s : Step} (wd : World) → Reached wd → Work s wd → (step s wd .world ≡ wd) ⊎ (workLeft (step s wd .world) < workLeft wd)
 unfolding workLeft
-work-lowers wd wd′ r (stays idle e) = inl e
-work-lowers wd wd′ r (mains i is done m) =
-    let l : ℕ = length (wd .journal) in
+work-lowers wd r (idles k) = inl (k .world)
+work-lowers {s} wd r (reads k) =
+    let wd′ : World = step s wd .world in
+    let m = k .mained in
     let len : length (wd′ .journal) ≡ length (wd .journal) = ap length (m .journal) in
     let each : (w : ℕ) → w < length (wd′ .sides) →
     sideWork (length (wd′ .journal)) (wd′ .current) (sideAt w wd′) ≤ sideWork (length (wd .journal)) (wd .current) (sideAt w wd)
     = λ w h.
-    let k : w < length (wd .sides) = omega (arith, m .count) in
+    let within : w < length (wd .sides) = omega (arith, m .count) in
     subst⁻¹ (λ n. n ≤ sideWork (length (wd .journal)) (wd .current) (sideAt w wd))
-    (λ i. sideWork (length (m .journal i)) (m .current i) (m .each w k i))
-    (main-work (wd .journal) (length (wd .journal)) (wd .current) w (wd .spacing) (sideAt w wd) (r .each w k) (m .below) refl) in
+    (λ i. sideWork (length (m .journal i)) (m .current i) (m .each w within i))
+    (main-work (wd .journal) (length (wd .journal)) (wd .current) w (wd .spacing) (sideAt w wd) (r .each w within) (m .below) refl) in
     inr
     (omega (
       arith,
@@ -103,81 +106,84 @@ work-lowers wd wd′ r (mains i is done m) =
       m .current,
       total-le (sideWork _ (wd′ .current)) (sideWork _ (wd .current)) (wd′ .sides) (wd .sides) (m .count) each,
     ))
-work-lowers wd wd′ r (works w h p′ work e s) =
+work-lowers wd r (serves w k) =
     inr
-    (subst⁻¹ (λ x. workLeft x < workLeft wd) e
+    (subst⁻¹ (λ x. workLeft x < workLeft wd) (k .world)
     (omega (
       arith,
-      total-set (sideWork (length (wd .journal)) (wd .current)) (wd .sides) w p′ h,
-      worked-lowers (r .each w h) (read-in wd r) (wd .limit) p′ (few-in wd r) work,
+      total-set (sideWork (length (wd .journal)) (wd .current)) (wd .sides) w (k .after) (k .within),
+      worked-lowers (r .each w (k .within)) (read-in wd r) (wd .limit) (k .after) (few-in wd r) (k .work),
     )))
 
 -- ------------------------------------------------------------------------
 -- what a step leaves as it was
 
--- a step that is neither a fault nor an append leaves the journal and the number of windows
-pub work-most : {s : Step} {reply : Reply} (wd wd′ : World) → Work s reply wd wd′ → mostWork wd′ ≡ mostWork wd
-work-most wd wd′ work = ap₂ (λ j n. length j * (1 + 5 * n)) (work-journal wd wd′ work) (work-count wd wd′ work)
+-- a step that is neither a fault nor an append leaves the journal, and the number of windows
+pub work-journal : {s : Step} (wd : World) → Work s wd → step s wd .world .journal ≡ wd .journal
+work-journal wd (idles k) = ap (λ x. x .journal) (k .world)
+work-journal wd (reads k) = k .mained .journal
+work-journal wd (serves w k) = ap (λ x. x .journal) (k .world)
+
+work-most : {s : Step} (wd : World) → Reached wd → Work s wd → mostWork (step s wd .world) ≡ mostWork wd
+work-most {s} wd r work = ap₂ (λ j n. length j * (1 + 5 * n)) (work-journal wd work) (step-count wd s (r .inShape))
 
 -- ------------------------------------------------------------------------
 -- the count
 
--- the count after a step
-abbrev countAfter : ℕ → World → Step → ℕ
-countAfter n wd s = cond (begins s (step s wd .reply)) 0 (cond (sameWorld wd (step s wd .world)) n (suc n))
-
 module _ (n : ℕ) (wd : World) (s : Step) (r : Reached wd) (h : n + workLeft wd ≤ mostWork wd) where
+  abbrev next : World
+  next = step s wd .world
+
+  abbrev anewAt : Bool
+  anewAt = begins (sortOf s) (isDone (step s wd .reply))
+
+  -- the count after the step
+  abbrev countAfter : ℕ
+  countAfter = cond anewAt 0 (cond (sameWorld wd next) n (suc n))
+
   abbrev Counted : Type 0
-  Counted = countAfter n wd s + workLeft (step s wd .world) ≤ mostWork (step s wd .world)
+  Counted = countAfter + workLeft next ≤ mostWork next
 
-  anew : begins s (step s wd .reply) ≡ true → Counted
-  anew begun = simp begun (omega (arith, workLeft-most (step s wd .world) (reached-step wd s r)))
+  anew : anewAt ≡ true → Counted
+  anew begun = simp begun (omega (arith, workLeft-most next (reached-step wd s r)))
 
-  counted : begins s (step s wd .reply) ≡ false → mostWork (step s wd .world) ≡ mostWork wd → (t : Bool) →
-      sameWorld wd (step s wd .world) ≡ t → (step s wd .world ≡ wd) ⊎ (workLeft (step s wd .world) < workLeft wd) → Counted
+  counted : anewAt ≡ false → mostWork next ≡ mostWork wd → (t : Bool) → sameWorld wd next ≡ t →
+      (next ≡ wd) ⊎ (workLeft next < workLeft wd) → Counted
   counted quiet most t same (inl e) =
-      let itself : sameWorld wd (step s wd .world) ≡ true = ap (sameWorld wd) e ∙ sameWorld-itself wd in
+      let itself : sameWorld wd next ≡ true = ap (sameWorld wd) e ∙ sameWorld-itself wd in
       simp (quiet, itself) (omega (arith, ap workLeft e))
   counted quiet most true same (inr l) = simp (quiet, same) (omega arith)
   counted quiet most false same (inr l) = simp (quiet, same) (omega arith)
 
   after-step : Counted
   after-step =
-      ⊎-elim anew
-      (λ k.
-      counted (k .0) (work-most wd (step s wd .world) (k .1)) (sameWorld wd (step s wd .world)) refl
-      (work-lowers wd (step s wd .world) r (k .1)))
-      (begun-or-working wd s r)
+      ⊎-elim anew (λ k. counted (k .0) (work-most wd r (k .1)) (sameWorld wd next) refl (work-lowers wd r (k .1)))
+      (begun-or-working wd s (r .inShape))
 
 -- the count so far and the work left are together at most L × (1 + 5 × W)
 pub changes-bound : (n : ℕ) (wd : World) (ss : List Step) → Reached wd → n + workLeft wd ≤ mostWork wd →
     changes n wd ss ≤ mostWork (run wd ss)
-unfolding changes run
+unfolding changesBy runBy
 changes-bound n wd [] r h = omega arith
-changes-bound n wd (s ∷ ss) r h =
-    changes-bound (countAfter n wd s) (step s wd .world) ss (reached-step wd s r) (after-step n wd s r h)
+changes-bound n wd (s ∷ ss) r h = changes-bound _ (step s wd .world) ss (reached-step wd s r) (after-step n wd s r h)
 
 -- ------------------------------------------------------------------------
 -- no work left
 
-begins-work : (s : Step) (reply : Reply) → isWork s ≡ true → begins s reply ≡ false
-begins-work (main i) reply e = refl
-begins-work (catch w t i) reply e = refl
-begins-work (written w t) reply e = refl
-begins-work (send w out) reply e = refl
-begins-work (take w acks) reply e = refl
-begins-work (ack w) reply e = refl
-begins-work (late-ack w t i) reply e = refl
-begins-work (drop w) reply e = absurd (false≢true e)
-begins-work (join w) reply e = absurd (false≢true e)
-begins-work (start b spacing first silent) reply e = absurd (false≢true e)
-begins-work (append x) reply e = absurd (false≢true e)
+begins-work : (k : Sort) (done : Bool) → isWork k ≡ true → begins k done ≡ false
+begins-work mains done e = refl
+begins-work (takes w) done e = refl
+begins-work otherWork done e = refl
+begins-work (drops w) done e = absurd (false≢true e)
+begins-work (joins w) done e = absurd (false≢true e)
+begins-work (starts silent) done e = absurd (false≢true e)
+begins-work appends done e = absurd (false≢true e)
 
 -- A result to be read: where no work is left, none can.
 pub none-left : (wd : World) → Reached wd → workLeft wd ≡ 0 → NoneCan wd
 none-left wd r none s is =
-    ⊎-elim (λ begun. absurd (true≢false (sym begun ∙ begins-work s _ is)))
+    ⊎-elim (λ begun. absurd (true≢false (sym begun ∙ begins-work (sortOf s) _ is)))
     (λ k.
     ⊎-elim (λ e. ap (sameWorld wd) e ∙ sameWorld-itself wd) (λ (l : workLeft (step s wd .world) < workLeft wd). absurd (omega arith))
-    (work-lowers wd _ r (k .1)))
-    (begun-or-working wd s r)
+    (work-lowers wd r (k .1)))
+    (begun-or-working wd s (r .inShape))

@@ -10,9 +10,9 @@ use Rattle.journal.specs.Entry.{entry4}
 use Rattle.journal.specs.Due.{due}
 use Rattle.planner.specs.Plan.{figures, planRule}
 use Rattle.delivery.specs.World.{World, numbersIn, Step, main, catch, written, send, take, ack, drop, join, start, append, run}
-use Rattle.delivery.specs.Statement.{joinedAfter, NoneCan, firstStart}
-use Rattle.delivery.specs.Counts.{isTakeOf, isMain, doneSince, leftBy, lastAt}
-use Rattle.delivery.specs.Examples.{computed, nobody, wide, openedWith, term, room, afternoon, oneEntry, fiveMoves}
+use Rattle.delivery.specs.Statement.{joinedAfter, joinedAfterBy, NoneCan, firstStart}
+use Rattle.delivery.specs.Counts.{takesOwn, reads, doneSince, leftBy, lastAt}
+use Rattle.delivery.specs.Examples.{computed, nobody, chosen, openedWith, term, room, afternoon, oneEntry, fiveMoves}
 use Rattle.delivery.specs.TickExamples.{openedEvery, busy, busySteps}
 use Rattle.delivery.specs.Invariant.{Reached}
 use Rattle.delivery.specs.Reach.{reached-run}
@@ -21,7 +21,7 @@ use Rattle.delivery.specs.Demand3.{opened-reached}
 
 -- to unfold this is to unfold the definitions that the counts are stated with
 counting : Unit {0}
-unfolding doneSince leftBy joinedAfter planRule figures due
+unfolding doneSince leftBy joinedAfterBy planRule figures due
 counting = tt
 
 -- What two windows come to after a list of steps: the Takes of each answered 0 since the last fault or append, what the planner answers of
@@ -40,11 +40,11 @@ planAfter w wd steps = let now : World = run wd steps in planRule (numbersIn now
 
 abbrev pub tally : World → List Step → Tally
 tally wd steps = record {
-  takes0 = doneSince (isTakeOf 0) 0 wd steps;
+  takes0 = doneSince (takesOwn 0) 0 wd steps;
   plan0 = planAfter 0 wd steps;
-  takes1 = doneSince (isTakeOf 1) 0 wd steps;
+  takes1 = doneSince (takesOwn 1) 0 wd steps;
   plan1 = planAfter 1 wd steps;
-  mains = doneSince isMain 0 wd steps;
+  mains = doneSince reads 0 wd steps;
   current = leftBy wd wd steps .current;
   joined = joinedAfter 0 true wd steps && joinedAfter 1 true wd steps;
 }
@@ -57,7 +57,7 @@ evening = entry4 3 1 1 50400 ∷ entry4 1 2 1 350 ∷ entry4 2 3 1 0 ∷ entry4 
 -- is refused are not counted, nor is what was taken and read before the Start.
 abbrev pub startedSteps : List Step
 startedSteps =
-    main 1 ∷ main 2 ∷ send 0 room ∷ take 0 false ∷ send 1 room ∷ take 1 false ∷ start 2 wide (term 2) 0
+    main 1 ∷ main 2 ∷ send 0 room ∷ take 0 false ∷ send 1 room ∷ take 1 false ∷ start (chosen 2 0)
     ∷ main 2 ∷ main 3 ∷ main 4 ∷ main 5 ∷ send 0 room ∷ written 0 (term 2) ∷ take 0 false ∷ take 0 false ∷ ack 0
     ∷ send 1 room ∷ written 1 (term 2) ∷ take 1 false ∷ take 1 false ∷ ack 1 ∷ []
 
@@ -158,12 +158,12 @@ none-to-do : workLeft (run oneEntry fiveMoves) ≡ 0
 unfolding computed workLeft total
 none-to-do = refl
 
-one-started : firstStart nobody (entry4 3 1 1 50400 ∷ []) 2 2 wide (term 1) 0 .answer ≡ 0
+one-started : firstStart nobody (entry4 3 1 1 50400 ∷ []) 2 (chosen 1 0) .answer ≡ 0
 unfolding computed
 one-started = refl
 
 pub premise-met : PremiseMet
 unfolding computed counting
 premise-met =
-    let reached : Reached oneEntry = opened-reached nobody (entry4 3 1 1 50400 ∷ []) 2 2 wide (term 1) 0 one-started in
+    let reached : Reached oneEntry = opened-reached nobody (entry4 3 1 1 50400 ∷ []) 2 (chosen 1 0) one-started in
     record { joined0 = refl; joined1 = refl; none = none-left (run oneEntry fiveMoves) (reached-run oneEntry fiveMoves reached) none-to-do }

@@ -3,17 +3,16 @@
 use Prim.Native.Nat.{ℕ, suc, _-_, _<_}
 use mathlib.Core.Path.{_≡_}
 use mathlib.Core.List.{List, [], _∷_}
-use mathlib.Core.Bool.{Bool, true, false, cond, _&&_}
+use mathlib.Core.Bool.{Bool, false, cond, _&&_}
 use lib.ListN.{length}
-use lib.Dec.{eqb}
 use Rattle.journal.specs.declared.Entry.{Entry}
 use Rattle.journal.specs.Own.{isOwn}
-use Rattle.rules.specs.declared.Term.{Term}
+use Rattle.rules.specs.declared.Settings.{Settings}
 use Rattle.rules.specs.View.{PlayerView}
-use Rattle.rules.specs.Rules.{speaks}
 use Rattle.planner.specs.Plan.{Figures, figures, planned, planRule}
-use Rattle.delivery.specs.World.{Sent, World, sideAt, numbersIn, Step, main, catch, written, send, take, ack, late-ack, drop, join, start, append, Stepped, step, run}
-use Rattle.delivery.specs.Statement.{isDone, begins, joinedAfter, NoneCan, firstStart, firstWorld}
+use Rattle.delivery.specs.World.{Sent, World, sideAt, numbersIn, Step, Stepped, step, run}
+use Rattle.delivery.specs.Sorts.{isDone, sortOf, begins, isMain, isTakeAt}
+use Rattle.delivery.specs.Statement.{AllJoined, NoneCan, firstStart, firstWorld}
 
 -- one of window w's own at the front of its line, and no tick
 abbrev pub ownFront : ℕ → List Sent → Bool
@@ -21,44 +20,26 @@ ownFront w [] = false
 ownFront w (s ∷ rest) = isOwn w (s .placed)
 
 -- a Take of window w, of one of its own; a step is of a kind in the world in which it is made
-abbrev pub isTakeOf : ℕ → World → Step → Bool
-isTakeOf w wd (main i) = false
-isTakeOf w wd (catch v t i) = false
-isTakeOf w wd (written v t) = false
-isTakeOf w wd (send v out) = false
-isTakeOf w wd (take v acks) = eqb v w && ownFront w (sideAt v wd .line)
-isTakeOf w wd (ack v) = false
-isTakeOf w wd (late-ack v t i) = false
-isTakeOf w wd (drop v) = false
-isTakeOf w wd (join v) = false
-isTakeOf w wd (start b e first silent) = false
-isTakeOf w wd (append e) = false
+abbrev pub takesOwn : ℕ → World → Step → Bool
+takesOwn w wd s = isTakeAt w (sortOf s) && ownFront w (sideAt w wd .line)
 
--- a Main
-abbrev pub isMain : World → Step → Bool
-isMain wd (main i) = true
-isMain wd (catch v t i) = false
-isMain wd (written v t) = false
-isMain wd (send v out) = false
-isMain wd (take v acks) = false
-isMain wd (ack v) = false
-isMain wd (late-ack v t i) = false
-isMain wd (drop v) = false
-isMain wd (join v) = false
-isMain wd (start b e first silent) = false
-isMain wd (append e) = false
+-- a Main, in any world
+abbrev pub reads : World → Step → Bool
+reads wd s = isMain (sortOf s)
 
 -- The number of steps of a kind answered 0 since the last fault or append; n of them are counted before the list.
 unfoldable pub doneSince : (World → Step → Bool) → ℕ → World → List Step → ℕ
 doneSince kind n wd [] = n
 doneSince kind n wd (s ∷ ss) =
     let r : Stepped = step s wd in
-    doneSince kind (cond (begins s (r .reply)) 0 (cond (kind wd s && isDone (r .reply)) (suc n) n)) (r .world) ss
+    doneSince kind (cond (begins (sortOf s) (isDone (r .reply))) 0 (cond (kind wd s && isDone (r .reply)) (suc n) n)) (r .world) ss
 
 -- The world as the last fault or append left it; where the list has none, the one given, which is that after the first Start.
 unfoldable pub leftBy : World → World → List Step → World
 leftBy given wd [] = given
-leftBy given wd (s ∷ ss) = let r : Stepped = step s wd in leftBy (cond (begins s (r .reply)) (r .world) given) (r .world) ss
+leftBy given wd (s ∷ ss) =
+    let r : Stepped = step s wd in
+    leftBy (cond (begins (sortOf s) (isDone (r .reply))) (r .world) given) (r .world) ss
 
 -- the last index in window w's record
 abbrev pub lastAt : ℕ → World → ℕ
@@ -78,15 +59,14 @@ pub record Counts (count silent : ℕ) (wd : World) (steps : List Step) : Type 0
       planRule (numbersIn now) w (lastAt w left) (now .limit) ≡ planned (figuresFor w left now)
   -- with all windows joined, when none can, the Takes of each window answered 0 since the last fault or append, ticks left out, are its
   -- first figure
-  pub takes : ((w : ℕ) → w < count → joinedAfter w (speaks silent w) wd steps ≡ true) → NoneCan (run wd steps) →
-      (w : ℕ) → w < count → doneSince (isTakeOf w) 0 wd steps ≡ figuresFor w (leftBy wd wd steps) (run wd steps) .entries
+  pub takes : AllJoined count silent wd steps → NoneCan (run wd steps) →
+      (w : ℕ) → w < count → doneSince (takesOwn w) 0 wd steps ≡ figuresFor w (leftBy wd wd steps) (run wd steps) .entries
   -- with all windows joined, when none can, the Mains answered 0 since then are L minus `current` as it was left
-  pub mains : ((w : ℕ) → w < count → joinedAfter w (speaks silent w) wd steps ≡ true) → NoneCan (run wd steps) →
-      doneSince isMain 0 wd steps ≡ length (run wd steps .journal) - leftBy wd wd steps .current
+  pub mains : AllJoined count silent wd steps → NoneCan (run wd steps) →
+      doneSince reads 0 wd steps ≡ length (run wd steps .journal) - leftBy wd wd steps .current
 
 -- W4's counts, of whatever demand 3 speaks of
 abbrev pub ExactCounts : Type 0
 ExactCounts =
-    (before : PlayerView) (j : List Entry) (count limit spacing : ℕ) (first : Term) (silent : ℕ) (steps : List Step) →
-    firstStart before j count limit spacing first silent .answer ≡ 0 →
-    Counts count silent (firstWorld before j count limit spacing first silent) steps
+    (before : PlayerView) (j : List Entry) (count : ℕ) (settings : Settings) (steps : List Step) →
+    firstStart before j count settings .answer ≡ 0 → Counts count (settings .silent) (firstWorld before j count settings) steps

@@ -5,7 +5,7 @@ use mathlib.Core.List.{List, [], _∷_, _++_, map, map-append, map-map, map-id}
 use mathlib.Core.Bool.{Bool, true, false, not, _||_}
 use native.Mathlib.Omega.{arith}
 use native.Mathlib.Nat.{le-refl}
-use lib.ListN.{length, getD, take, replicate, length-map, length-replicate, getD-replicate, List·getD-map}
+use lib.ListN.{length, getD, take, length-map, getD-replicate, List·getD-map}
 use lib.Seq.{take-append-seam}
 use Rattle.journal.specs.declared.Entry.{Entry}
 use borrow.Author.Tests.{eqb-true}
@@ -17,12 +17,12 @@ use Rattle.lists.specs.Cases.{and-left, and-right, and-intro}
 use Rattle.lists.specs.All.{all, all-weaken}
 use Rattle.record.specs.Record.{newRecord, takeAll}
 use Rattle.record.specs.Laws.{takeAll-nil, takeAll-new-count, takeAll-last, takeAll-kept}
-use Rattle.rules.specs.declared.Term.{Term}
+use Rattle.rules.specs.declared.Settings.{Settings}
 use Rattle.rules.specs.View.{PlayerView, noWindow}
 use Rattle.rules.specs.Shape.{shape}
-use Rattle.rules.specs.Window.{isSuspended, Report, silence, startedBy}
+use Rattle.rules.specs.Window.{isSuspended, startedBy}
 use Rattle.rules.specs.Rules.{Outcome, windowAt, speaks, saidBy, sentFor}
-use Rattle.rules.specs.Offers.{sentFor-isOwn, sentFor-tick, StartDone, said-at, least-le, startRule-done, startNext-at, start-shaped}
+use Rattle.rules.specs.Offers.{sentFor-isOwn, sentFor-tick, StartDone, startRule-done, startNext-at, startNext-current, start-shaped}
 use Rattle.delivery.specs.World.{Side, World, sideAt, playerIn, newSide, opened, Step, run}
 use Rattle.delivery.specs.Statement.{changes, isTick, Leading, Delivers, newReports, firstStart, firstWorld, Demand3}
 use Rattle.delivery.specs.Invariant.{Taken, Inv, Reached, lastOf}
@@ -30,9 +30,9 @@ use Rattle.delivery.specs.Worlds.{count-in, withWindows}
 use Rattle.delivery.specs.KeepFault.{keep-start}
 use Rattle.delivery.specs.Queued.{holds-none}
 use Rattle.delivery.specs.KeepLine.{taken-own, taken-few}
-use Rattle.delivery.specs.Reach.{few-in, reached-run}
+use Rattle.delivery.specs.Reach.{few-in, reached-run, run-count}
 use Rattle.delivery.specs.Bound.{workLeft-most, changes-bound}
-use Rattle.delivery.specs.Joined.{run-count, startedBy-away, joined-run}
+use Rattle.delivery.specs.Joined.{startedBy-away, joined-run}
 use Rattle.delivery.specs.Finish.{taken-all}
 
 -- ------------------------------------------------------------------------
@@ -81,7 +81,8 @@ leading-part j w p few is =
       races =
           ap (λ r. r .races) (is .recordIs)
           ∙ takeAll-kept (isOwn w) (p .taken) newRecord newRecord
-          (all-weaken (λ x. isOwn w x || isTick x) (λ x. isOwn w x || not (isRace (x .entry .race))) (no-race w) (p .taken) others) refl room room
+          (all-weaken (λ x. isOwn w x || isTick x) (λ x. isOwn w x || not (isRace (x .entry .race))) (no-race w) (p .taken) others)
+          refl room room
           ∙ ap (λ l. takeAll l newRecord .races) list;
       count = ap (λ r. r .count) (is .recordIs) ∙ takeAll-new-count (p .taken) (omega arith);
       last = ap (λ r. r .last .0) (is .recordIs) ∙ takeAll-last (p .taken) newRecord room;
@@ -100,26 +101,21 @@ new-taken j w = record {
   recordIs = sym (takeAll-nil newRecord);
 }
 
-module _ (before : PlayerView) (j : List Entry) (count limit spacing : ℕ) (first : Term) (silent : ℕ)
-    (done : firstStart before j count limit spacing first silent .answer ≡ 0) where
-  -- the first Start, the world after it, and what it is told
+module _ (before : PlayerView) (j : List Entry) (count : ℕ) (settings : Settings)
+    (done : firstStart before j count settings .answer ≡ 0) where
+  -- the first Start, and the world after it
   abbrev starts : Outcome
-  starts = firstStart before j count limit spacing first silent
+  starts = firstStart before j count settings
 
   abbrev wd₀ : World
-  wd₀ = firstWorld before j count limit spacing first silent
+  wd₀ = firstWorld before j count settings
 
-  abbrev told-first : List Report
-  told-first = newReports silent count
+  start-done : StartDone (numbersOf j) count settings (newReports count) starts
+  start-done = startRule-done (numbersOf j) count settings (newReports count) before done
 
-  start-done : StartDone (numbersOf j) count limit spacing first told-first starts
-  start-done = startRule-done (numbersOf j) count limit spacing first told-first before done
-
-  -- of each window silence, or a report of 0
-  told-at : (w : ℕ) → w < count → getD told-first w silence ≡ saidBy silent w 0
-  told-at w h =
-      said-at silent (replicate count 0) w (omega (arith, length-replicate {A = ℕ} count 0))
-      ∙ ap (saidBy silent w) (getD-replicate count w 0 0 h)
+  -- every report is 0
+  report-at : (w : ℕ) → w < count → getD (newReports count) w 0 ≡ 0
+  report-at w h = getD-replicate count w 0 0 h
 
   pub opened-count : length (wd₀ .sides) ≡ count
   unfolding opened
@@ -127,27 +123,31 @@ module _ (before : PlayerView) (j : List Entry) (count limit spacing : ℕ) (fir
       length-map (starts .next .windows) newSide ∙ start-done .windows
 
   -- `current` is 0 where a window speaks
-  opened-least : (w : ℕ) → w < count → speaks silent w ≡ true → wd₀ .current ≤ 0
+  opened-least : (w : ℕ) → w < count → speaks (settings .silent) w ≡ true → wd₀ .current ≤ 0
   unfolding opened
   opened-least w h speaking =
-      subst⁻¹ (λ c. c ≤ 0) (ap (λ q. q .current) (start-done .next))
-      (least-le (countOf (numbersOf j)) told-first w 0 (told-at w h ∙ rw speaking))
+      omega (
+        arith,
+        ap (λ q. q .current) (start-done .next),
+        startNext-current (countOf (numbersOf j)) settings (newReports count) w (omega (arith, start-done .given .each)) speaking,
+        report-at w h,
+      )
 
-  pub opened-side : (w : ℕ) → w < count → sideAt w wd₀ ≡ newSide (startedBy first (length j) (saidBy silent w 0))
+  pub opened-side : (w : ℕ) → w < count → sideAt w wd₀ ≡ newSide (startedBy (settings .first) (length j) (saidBy (settings .silent) w 0))
   unfolding opened
   opened-side w h =
       List·getD-map newSide (starts .next .windows) w noWindow
       ∙ ap newSide
       (ap (windowAt w) (start-done .next)
-      ∙ startNext-at (countOf (numbersOf j)) limit spacing first told-first w (omega (arith, start-done .given .each))
-      ∙ ap₂ (startedBy first) (count-in wd₀) (told-at w h))
+      ∙ startNext-at (countOf (numbersOf j)) settings (newReports count) w (omega (arith, start-done .given .each))
+      ∙ ap₂ (λ l r. startedBy (settings .first) l (saidBy (settings .silent) w r)) (count-in wd₀) (report-at w h))
 
   opened-shaped : shape (numbersOf j) (playerIn wd₀) ≡ true
   unfolding opened
   opened-shaped =
       ap (λ vs. shape (numbersOf j) (withWindows (starts .next) vs))
       (map-map (λ p. p .view) newSide (starts .next .windows) ∙ map-id (starts .next .windows))
-      ∙ start-shaped (numbersOf j) count limit spacing first told-first before done
+      ∙ start-shaped (numbersOf j) count settings (newReports count) before done
 
   pub opened-reached : Reached wd₀
   unfolding opened
@@ -156,27 +156,29 @@ module _ (before : PlayerView) (j : List Entry) (count limit spacing : ℕ) (fir
     each = λ w h.
         let k : w < count = omega (arith, opened-count) in
         subst⁻¹ (Inv j (starts .next .current) w) (opened-side w k)
-        (keep-start first silent (newSide noWindow) (new-taken j w) (opened-least w k));
+        (keep-start (settings .first) (settings .silent) (newSide noWindow) (new-taken j w) (opened-least w k));
   }
 
-  delivers : (steps : List Step) → Delivers count silent wd₀ steps
+  delivers : (steps : List Step) → Delivers count (settings .silent) wd₀ steps
   delivers steps =
       let wd : World = wd₀ in
       let reached : Reached (run wd steps) = reached-run wd steps opened-reached in
       let n : length (run wd steps .sides) ≡ count = run-count wd steps opened-reached ∙ opened-count in
       record {
         leading = λ w h.
-            leading-part (run wd steps .journal) w (sideAt w (run wd steps)) (few-in (run wd steps) reached) (reached .each w (omega arith) .taken);
+            leading-part (run wd steps .journal) w (sideAt w (run wd steps)) (few-in (run wd steps) reached)
+            (reached .each w (omega arith) .taken);
         bound = λ joined.
             subst (λ k. changes 0 wd steps ≤ length (run wd steps .journal) * (1 + 5 * k)) n
             (changes-bound 0 wd steps opened-reached (omega (arith, workLeft-most wd opened-reached)));
         finish = λ joined none w h.
             taken-all (run wd steps) reached none w (omega arith)
-            (joined-run wd steps w (speaks silent w) opened-reached (omega (arith, opened-count))
-            (ap (λ p. isSuspended (p .view .condition)) (opened-side w h) ∙ startedBy-away (speaks silent w) first (length j) 0)
+            (joined-run wd steps w (speaks (settings .silent) w) opened-reached (omega (arith, opened-count))
+            (ap (λ p. isSuspended (p .view .condition)) (opened-side w h)
+            ∙ startedBy-away (speaks (settings .silent) w) (settings .first) (length j) 0)
             ∙ ap not (joined w h));
       }
 
 -- Demand 3, for every W, batch limit, spacing, first term, set of silent windows, journal and list of steps
 pub demand-3 : Demand3
-demand-3 before j count limit spacing first silent steps done = delivers before j count limit spacing first silent done steps
+demand-3 before j count settings steps done = delivers before j count settings done steps

@@ -1,55 +1,76 @@
--- What a step does, said once: nothing, Main at every window, the work of one window, or a fault or an append.
+-- What a step does, said once: nothing, Main at every window, the work of one window, or a fault or an append. Facts that go together are
+-- records, and a step is one of these.
 use Prim.Native.Nat.{ℕ, suc, _≤_, _<_, max}
-use mathlib.Core.Path.{_≡_, ap, _∙_}
+use mathlib.Core.Path.{_≡_}
 use mathlib.Core.List.{List, [], _∷_, _++_}
 use mathlib.Core.Bool.{Bool, true, false}
 use lib.ListN.{length}
 use Rattle.journal.specs.declared.Entry.{Entry}
 use Rattle.journal.specs.Entry.{fiveOf}
 use Rattle.record.specs.Record.{takeNumbers}
+use Rattle.rules.specs.declared.Settings.{Settings}
 use Rattle.rules.specs.declared.Term.{Term}
 use Rattle.rules.specs.View.{WindowView}
 use Rattle.rules.specs.Shape.{shape}
-use Rattle.rules.specs.Window.{isSuspended, wanted, mainAt, fetched, batchOf, freed, acknowledged, dropped, joined, startedBy}
+use Rattle.rules.specs.Window.{isSuspended, mainAt, batchOf, freed, acknowledged, dropped, joined, startedBy}
 use Rattle.rules.specs.Rules.{speaks, saidBy}
-use Rattle.rules.specs.Offers.{Caught, SentOut, WrittenOff, AckTaken}
+use Rattle.rules.specs.Offers.{Caught, catchEffect, SentOut, WrittenOff, AckTaken}
 use Rattle.delivery.specs.World.{Sent, Ack, Side, World, sideAt, numbersIn, playerIn, withView, withLines, withJournal, withSide, raised, takeFront, cleared, Step, main, catch, send, take, ack, drop, join, start, append, Reply, answered, step}
 use Rattle.delivery.specs.World as W
+use Rattle.delivery.specs.Sorts.{isDone, sortOf, begins}
 use Rattle.delivery.specs.Invariant.{lastOf}
-use Rattle.delivery.specs.Worlds.{withSide-count}
 use Rattle.delivery.specs.KeepSend.{launchedSide}
-use Rattle.delivery.specs.Statement.{isDone, begins}
 
--- the work of window w by a step s with its reply: Catch, Send, Written or Ack answered 0, or a Take, which may ack any entry or not
+-- ------------------------------------------------------------------------
+-- The work of window w by a step s: its side p becomes p′
+
+-- Catch answered 0
+pub record CaughtAt (j : List Entry) (w : ℕ) (s : Step) (p p′ : Side) : Type 0 where
+  pub term : Term
+  pub index : ℕ
+  pub is : s ≡ catch w term index
+  pub tells : Caught j w term index (p .view)
+  pub side : p′ ≡ withView (catchEffect w term index .makes j (p .view) tells) p
+
+-- Send answered 0
+pub record SentAt (j : List Entry) (limit w : ℕ) (s : Step) (p p′ : Side) : Type 0 where
+  pub out : List ℕ
+  pub is : s ≡ send w out
+  pub tells : SentOut limit (length out) (p .view)
+  pub side : p′ ≡ launchedSide j w (batchOf limit (p .view)) p
+
+-- Written answered 0
+pub record WrittenAt (w : ℕ) (s : Step) (p p′ : Side) : Type 0 where
+  pub term : Term
+  pub is : s ≡ W.written w term
+  pub tells : WrittenOff term (p .view)
+  pub side : p′ ≡ withView (freed (p .view)) p
+
+-- a Take from a line that is not empty, whatever it is answered; it may ack any entry or not
+pub record TookAt (w : ℕ) (s : Step) (reply : Reply) (p p′ : Side) : Type 0 where
+  pub acks : Bool
+  pub is : s ≡ take w acks
+  pub entry : Sent
+  pub rest : List Sent
+  pub front : p .line ≡ entry ∷ rest
+  pub replied : reply ≡ answered (takeNumbers (fiveOf (entry .placed)) (p .record′) .number)
+  pub side : p′ ≡ takeFront acks entry rest p
+
+-- Ack answered 0
+pub record AckedAt (w : ℕ) (s : Step) (p p′ : Side) : Type 0 where
+  pub is : s ≡ ack w
+  pub offer : Ack
+  pub rest : List Ack
+  pub front : p .back ≡ offer ∷ rest
+  pub tells : AckTaken (offer .term) (offer .index) (p .view)
+  pub side : p′ ≡ withLines (p .line) rest (withView (acknowledged (offer .index) (p .view)) p)
+
 pub data Worked (j : List Entry) (limit w : ℕ) (s : Step) (reply : Reply) (p p′ : Side) : Type 0 where
-  caught : (t : Term) (i : ℕ) → s ≡ catch w t i → (c : Caught j w t i (p .view)) →
-      p′ ≡ withView (fetched (wanted j w i (p .view)) i (c .upto) (p .view)) p → Worked j limit w s reply p p′
-  sent : (out : List ℕ) → s ≡ send w out → SentOut limit (length out) (p .view) → p′ ≡ launchedSide j w (batchOf limit (p .view)) p →
-      Worked j limit w s reply p p′
-  written : (t : Term) → s ≡ W.written w t → WrittenOff t (p .view) → p′ ≡ withView (freed (p .view)) p → Worked j limit w s reply p p′
-  took : (acks : Bool) → s ≡ take w acks → (x : Sent) (rest : List Sent) → p .line ≡ x ∷ rest →
-      reply ≡ answered (takeNumbers (fiveOf (x .placed)) (p .record′) .number) → p′ ≡ takeFront acks x rest p →
-      Worked j limit w s reply p p′
-  acked : s ≡ ack w → (a : Ack) (rest : List Ack) → p .back ≡ a ∷ rest → AckTaken (a .term) (a .index) (p .view) →
-      p′ ≡ withLines (p .line) rest (withView (acknowledged (a .index) (p .view)) p) → Worked j limit w s reply p p′
-
--- Main answered 0: the next index is read, and each window does as its own rule says
-pub record Mained (wd wd′ : World) : Type 0 where
-  pub below : wd .current < length (wd .journal)
-  pub journal : wd′ .journal ≡ wd .journal
-  pub current : wd′ .current ≡ suc (wd .current)
-  pub count : length (wd′ .sides) ≡ length (wd .sides)
-  pub greatest : wd′ .greatest ≡ wd .greatest
-  pub each : (w : ℕ) → w < length (wd .sides) →
-      sideAt w wd′ ≡ withView (mainAt (wd .journal) w (wd .spacing) (suc (wd .current)) (sideAt w wd .view)) (sideAt w wd)
-  pub shaped : shape (numbersIn wd′) (playerIn wd′) ≡ true
-
--- a step s with its reply that is neither a fault nor an append: it is not answered 0 and does nothing, or is a Main, or a window's work
-pub data Work (s : Step) (reply : Reply) (wd wd′ : World) : Type 0 where
-  stays : isDone reply ≡ false → wd′ ≡ wd → Work s reply wd wd′
-  mains : (i : ℕ) → s ≡ main i → isDone reply ≡ true → Mained wd wd′ → Work s reply wd wd′
-  works : (w : ℕ) → w < length (wd .sides) → (p′ : Side) → Worked (wd .journal) (wd .limit) w s reply (sideAt w wd) p′ →
-      wd′ ≡ withSide w p′ wd → shape (numbersIn wd′) (playerIn wd′) ≡ true → Work s reply wd wd′
+  caught : CaughtAt j w s p p′ → Worked j limit w s reply p p′
+  sent : SentAt j limit w s p p′ → Worked j limit w s reply p p′
+  written : WrittenAt w s p p′ → Worked j limit w s reply p p′
+  took : TookAt w s reply p p′ → Worked j limit w s reply p p′
+  acked : AckedAt w s p p′ → Worked j limit w s reply p p′
 
 -- a step that does the work of window w
 pub record WorksAt (s : Step) (wd : World) (w : ℕ) : Type 0 where
@@ -59,42 +80,97 @@ pub record WorksAt (s : Step) (wd : World) (w : ℕ) : Type 0 where
   pub world : step s wd .world ≡ withSide w after wd
   pub shaped : shape (numbersIn (step s wd .world)) (playerIn (step s wd .world)) ≡ true
 
+-- ------------------------------------------------------------------------
+-- Main and Start, which reach every window of a world wd and leave wd′
+
+-- Main answered 0: the next index is read, and each window does as its own rule says
+pub record Mained (wd wd′ : World) : Type 0 where
+  pub below : wd .current < length (wd .journal)
+  pub journal : wd′ .journal ≡ wd .journal
+  pub limit : wd′ .limit ≡ wd .limit
+  pub spacing : wd′ .spacing ≡ wd .spacing
+  pub current : wd′ .current ≡ suc (wd .current)
+  pub count : length (wd′ .sides) ≡ length (wd .sides)
+  pub greatest : wd′ .greatest ≡ wd .greatest
+  pub each : (w : ℕ) → w < length (wd .sides) →
+      sideAt w wd′ ≡ withView (mainAt (wd .journal) w (wd .spacing) (suc (wd .current)) (sideAt w wd .view)) (sideAt w wd)
+  pub shaped : shape (numbersIn wd′) (playerIn wd′) ≡ true
+
 -- Start answered 0: the first term is above every term used before; on that term each window begins anew from its report, which is not
 -- below `current`, or is silent
-pub record Restarted (first : Term) (silent : ℕ) (wd wd′ : World) : Type 0 where
-  pub above : wd .greatest < first .0
-  pub greatest : wd′ .greatest ≡ max (wd .greatest) (first .0)
+pub record Restarted (settings : Settings) (wd wd′ : World) : Type 0 where
+  pub above : wd .greatest < settings .first .0
+  pub greatest : wd′ .greatest ≡ max (wd .greatest) (settings .first .0)
   pub journal : wd′ .journal ≡ wd .journal
   pub count : length (wd′ .sides) ≡ length (wd .sides)
-  pub least : (w : ℕ) → w < length (wd .sides) → speaks silent w ≡ true → wd′ .current ≤ lastOf (sideAt w wd)
+  pub least : (w : ℕ) → w < length (wd .sides) → speaks (settings .silent) w ≡ true → wd′ .current ≤ lastOf (sideAt w wd)
   pub each : (w : ℕ) → w < length (wd .sides) →
-      sideAt w wd′ ≡ cleared (withView (startedBy first (length (wd .journal)) (saidBy silent w (lastOf (sideAt w wd)))) (sideAt w wd))
+      sideAt w wd′
+      ≡ cleared
+      (withView (startedBy (settings .first) (length (wd .journal)) (saidBy (settings .silent) w (lastOf (sideAt w wd)))) (sideAt w wd))
   pub shaped : shape (numbersIn wd′) (playerIn wd′) ≡ true
+
+-- ------------------------------------------------------------------------
+-- Every step
+
+-- not answered 0: nothing changes
+pub record Idle (s : Step) (wd : World) : Type 0 where
+  pub undone : isDone (step s wd .reply) ≡ false
+  pub world : step s wd .world ≡ wd
+
+pub record MainedBy (s : Step) (wd : World) : Type 0 where
+  pub index : ℕ
+  pub is : s ≡ main index
+  pub done : isDone (step s wd .reply) ≡ true
+  pub mained : Mained wd (step s wd .world)
+
+-- a step that is neither a fault nor an append
+pub data Work (s : Step) (wd : World) : Type 0 where
+  idles : Idle s wd → Work s wd
+  reads : MainedBy s wd → Work s wd
+  serves : (w : ℕ) → WorksAt s wd w → Work s wd
+
+-- Drop of window w answered 0
+pub record DroppedBy (s : Step) (wd : World) (w : ℕ) : Type 0 where
+  pub is : s ≡ drop w
+  pub done : isDone (step s wd .reply) ≡ true
+  pub within : w < length (wd .sides)
+  pub world : step s wd .world ≡ withSide w (withView (dropped (sideAt w wd .view)) (sideAt w wd)) wd
+  pub shaped : shape (numbersIn (step s wd .world)) (playerIn (step s wd .world)) ≡ true
+
+-- a window's view after it has joined with its last index
+abbrev pub joinedView : (current : ℕ) → Side → WindowView
+joinedView current p = joined current (lastOf p) (p .view)
+
+-- Join of window w answered 0
+pub record RejoinedBy (s : Step) (wd : World) (w : ℕ) : Type 0 where
+  pub is : s ≡ join w
+  pub done : isDone (step s wd .reply) ≡ true
+  pub within : w < length (wd .sides)
+  pub away : isSuspended (sideAt w wd .view .condition) ≡ true
+  pub world :
+      let v : WindowView = joinedView (wd .current) (sideAt w wd) in
+      step s wd .world ≡ raised (v .term) (withSide w (cleared (withView v (sideAt w wd))) wd)
+  pub shaped : shape (numbersIn (step s wd .world)) (playerIn (step s wd .world)) ≡ true
+
+pub record StartedBy (s : Step) (wd : World) : Type 0 where
+  pub settings : Settings
+  pub is : s ≡ start settings
+  pub done : isDone (step s wd .reply) ≡ true
+  pub restarted : Restarted settings wd (step s wd .world)
+
+-- an append that is made
+pub record AppendedBy (s : Step) (wd : World) : Type 0 where
+  pub entry : Entry
+  pub is : s ≡ append entry
+  pub done : isDone (step s wd .reply) ≡ true
+  pub world : step s wd .world ≡ withJournal (wd .journal ++ (entry ∷ [])) wd
+  pub shaped : shape (numbersIn (step s wd .world)) (playerIn (step s wd .world)) ≡ true
 
 -- what a step does
 pub data Facts (s : Step) (wd : World) : Type 0 where
-  working : begins s (step s wd .reply) ≡ false → Work s (step s wd .reply) wd (step s wd .world) → Facts s wd
-  dropping : (w : ℕ) → s ≡ drop w → isDone (step s wd .reply) ≡ true → w < length (wd .sides) →
-      step s wd .world ≡ withSide w (withView (dropped (sideAt w wd .view)) (sideAt w wd)) wd →
-      shape (numbersIn (step s wd .world)) (playerIn (step s wd .world)) ≡ true → Facts s wd
-  joining : (w : ℕ) → s ≡ join w → isDone (step s wd .reply) ≡ true → w < length (wd .sides) → isSuspended (sideAt w wd .view .condition) ≡ true →
-      (let v : WindowView = joined (wd .current) (lastOf (sideAt w wd)) (sideAt w wd .view) in
-      step s wd .world ≡ raised (v .term) (withSide w (cleared (withView v (sideAt w wd))) wd)) →
-      shape (numbersIn (step s wd .world)) (playerIn (step s wd .world)) ≡ true → Facts s wd
-  starting : (b e : ℕ) (first : Term) (silent : ℕ) → s ≡ start b e first silent → isDone (step s wd .reply) ≡ true →
-      Restarted first silent wd (step s wd .world) → Facts s wd
-  appending : (e : Entry) → s ≡ append e → isDone (step s wd .reply) ≡ true → length (wd .journal) < 65535 →
-      step s wd .world ≡ withJournal (wd .journal ++ (e ∷ [])) wd → Facts s wd
-
--- ------------------------------------------------------------------------
--- what work leaves as it was: the journal, and the number of windows
-
-pub work-journal : {s : Step} {reply : Reply} (wd wd′ : World) → Work s reply wd wd′ → wd′ .journal ≡ wd .journal
-work-journal wd wd′ (stays idle e) = ap (λ x. x .journal) e
-work-journal wd wd′ (mains i is done m) = m .journal
-work-journal wd wd′ (works w h p′ work e sh) = ap (λ x. x .journal) e
-
-pub work-count : {s : Step} {reply : Reply} (wd wd′ : World) → Work s reply wd wd′ → length (wd′ .sides) ≡ length (wd .sides)
-work-count wd wd′ (stays idle e) = ap (λ x. length (x .sides)) e
-work-count wd wd′ (mains i is done m) = m .count
-work-count wd wd′ (works w h p′ work e sh) = ap (λ x. length (x .sides)) e ∙ withSide-count w p′ wd
+  working : begins (sortOf s) (isDone (step s wd .reply)) ≡ false → Work s wd → Facts s wd
+  dropping : (w : ℕ) → DroppedBy s wd w → Facts s wd
+  joining : (w : ℕ) → RejoinedBy s wd w → Facts s wd
+  starting : StartedBy s wd → Facts s wd
+  appending : AppendedBy s wd → Facts s wd

@@ -7,7 +7,7 @@ use mathlib.Core.List.{List, [], _∷_, _++_}
 use mathlib.Core.Bool.{Bool, true, false, cond, _&&_, and-true, and-false}
 use native.Mathlib.Omega.{arith}
 use native.Mathlib.Nat.{zero-add}
-use borrow.Author.Tests.{eq-eqb, ne-eqb, le-leb}
+use borrow.Author.Tests.{eq-eqb, le-leb}
 use lib.ListN.{length, length-map, length-append}
 use lib.Dec.{eqb}
 use Rattle.journal.specs.declared.Entry.{Entry}
@@ -15,21 +15,23 @@ use Rattle.journal.specs.Entry.{Placed, placedAt, fiveOf}
 use Rattle.journal.specs.Due.{due, due-split}
 use Rattle.journal.specs.Own.{own, isOwn, ownOf, own-due}
 use Rattle.lists.specs.Cases.{and-intro}
-use Rattle.lists.specs.Set.{getD-set-each}
 use Rattle.lists.specs.Keep.{keep, keep-append}
 use Rattle.record.specs.Record.{takeNumbers}
 use Rattle.rules.specs.Offers.{shaped}
 use Rattle.planner.specs.Plan.{toTake, figures, planned, planRule}
 use Rattle.planner.specs.PlanLaws.{planRule-planned}
-use Rattle.delivery.specs.World.{Side, World, noSide, sideAt, numbersIn, playerIn, takeFront, Step, Reply, step, run}
-use Rattle.delivery.specs.Statement.{isDone, begins, firstWorld}
-use Rattle.delivery.specs.Counts.{isTakeOf, isMain, doneSince, leftBy, lastAt, figuresFor, ExactCounts}
+use Rattle.delivery.specs.World.{Sent, Side, World, sideAt, numbersIn, playerIn, takeFront, Step, main, drop, join, start, append, step, run, runBy}
+use Rattle.delivery.specs.Sorts.{isDone, sortOf, begins, isMain, isTakeAt}
+use Rattle.delivery.specs.Statement.{firstWorld}
+use Rattle.delivery.specs.Counts.{ownFront, takesOwn, doneSince, leftBy, lastAt, figuresFor, ExactCounts}
+use Rattle.delivery.specs.Counts as Counts
 use Rattle.delivery.specs.Invariant.{Taken, Reached}
 use Rattle.delivery.specs.Worlds.{entries-in, count-in, windows-in}
-use Rattle.delivery.specs.Effects.{Worked, caught, sent, written, took, acked, Work, stays, mains, works, work-journal}
+use Rattle.delivery.specs.Effects.{Worked, caught, sent, written, took, acked, Work, idles, reads, serves}
+use Rattle.delivery.specs.Moves.{Moved, still, appended, mained, worked, dropped-here, joined-here, started-here, worked-sort, step-count, begun-or-working, side-moves}
 use Rattle.delivery.specs.KeepLine.{taken-own}
-use Rattle.delivery.specs.Reach.{reached-step, begun-or-working, reached-run}
-use Rattle.delivery.specs.Joined.{step-count, run-count}
+use Rattle.delivery.specs.Reach.{reached-step, reached-run, run-count}
+use Rattle.delivery.specs.Bound.{work-journal}
 use Rattle.delivery.specs.Finish.{all-read}
 use Rattle.delivery.specs.Demand3.{opened-reached, opened-count, demand-3}
 
@@ -43,46 +45,40 @@ oneMore b n = cond b (suc n) n
 -- A number of a world that goes up by one at the steps of a kind answered 0, and stays at the others that are neither a fault nor an
 -- append: so many such steps, and what it was when the last fault or append was over, are what it is.
 module _ (kind : World → Step → Bool) (f : World → ℕ) (count : ℕ)
-    (law : (s : Step) (reply : Reply) (wd wd′ : World) → length (wd .sides) ≡ count → Work s reply wd wd′ →
-    f wd′ ≡ oneMore (kind wd s && isDone reply) (f wd)) where
+    (law : (wd : World) (s : Step) → Reached wd → length (wd .sides) ≡ count → Work s wd →
+    f (step s wd .world) ≡ oneMore (kind wd s && isDone (step s wd .reply)) (f wd)) where
   module _ (n : ℕ) (left wd : World) (s : Step) (so-far : n + f left ≡ f wd) where
+    abbrev anew : Bool
+    anew = begins (sortOf s) (isDone (step s wd .reply))
+
     goes-on : (b : Bool) → f (step s wd .world) ≡ oneMore b (f wd) → oneMore b n + f left ≡ f (step s wd .world)
     goes-on true e = omega arith
     goes-on false e = omega arith
 
     counted-step : Reached wd → length (wd .sides) ≡ count →
-        cond (begins s (step s wd .reply)) 0 (oneMore (kind wd s && isDone (step s wd .reply)) n)
-        + f (cond (begins s (step s wd .reply)) (step s wd .world) left)
-        ≡ f (step s wd .world)
+        cond anew 0 (oneMore (kind wd s && isDone (step s wd .reply)) n) + f (cond anew (step s wd .world) left) ≡ f (step s wd .world)
     counted-step r c =
         ⊎-elim (λ begun. rw begun (zero-add (f (step s wd .world))))
-        (λ k. rw (k .0) (goes-on (kind wd s && isDone (step s wd .reply)) (law s _ wd _ c (k .1))))
-        (begun-or-working wd s r)
+        (λ k. rw (k .0) (goes-on (kind wd s && isDone (step s wd .reply)) (law wd s r c (k .1))))
+        (begun-or-working wd s (r .inShape))
 
   counted : (n : ℕ) (left wd : World) (ss : List Step) → Reached wd → length (wd .sides) ≡ count → n + f left ≡ f wd →
       doneSince kind n wd ss + f (leftBy left wd ss) ≡ f (run wd ss)
-  unfolding doneSince leftBy run
+  unfolding doneSince leftBy runBy
   counted n left wd [] r c so-far = so-far
   counted n left wd (s ∷ ss) r c so-far =
-      counted _ _ (step s wd .world) ss (reached-step wd s r) (step-count wd s r ∙ c) (counted-step n left wd s so-far r c)
+      counted _ _ (step s wd .world) ss (reached-step wd s r) (step-count wd s (r .inShape) ∙ c) (counted-step n left wd s so-far r c)
 
 -- ------------------------------------------------------------------------
 -- Mains
 
--- a window's work is no Main
-worked-main : {j : List Entry} {limit w : ℕ} {s : Step} {reply : Reply} {p p′ : Side} (wd : World) → Worked j limit w s reply p p′ →
-    isMain wd s ≡ false
-worked-main wd (caught t i is k e) = ap (isMain wd) is
-worked-main wd (sent out is k e) = ap (isMain wd) is
-worked-main wd (written t is off e) = ap (isMain wd) is
-worked-main wd (took acks is x rest front replied e) = ap (isMain wd) is
-worked-main wd (acked is a rest front taken e) = ap (isMain wd) is
-
-work-reads : (s : Step) (reply : Reply) (wd wd′ : World) → Work s reply wd wd′ →
-    wd′ .current ≡ oneMore (isMain wd s && isDone reply) (wd .current)
-work-reads s reply wd wd′ (stays idle e) = rw (idle, and-false (isMain wd s)) (ap (λ x. x .current) e)
-work-reads s reply wd wd′ (mains i is done m) = rw (is, done) (m .current)
-work-reads s reply wd wd′ (works w h p′ work e sh) = rw (worked-main wd work) (ap (λ x. x .current) e)
+work-reads : {s : Step} (wd : World) → Work s wd →
+    step s wd .world .current ≡ oneMore (isMain (sortOf s) && isDone (step s wd .reply)) (wd .current)
+work-reads {s} wd (idles k) = rw (k .undone, and-false (isMain (sortOf s))) (ap (λ x. x .current) (k .world))
+work-reads wd (reads k) =
+    k .mained .current ∙ rw (k .done) (ap (λ x. oneMore (isMain (sortOf x) && true) (wd .current)) (sym (k .is)))
+work-reads {s} wd (serves w k) =
+    rw (worked-sort (λ x. isMain x ≡ false) refl refl (k .work)) (ap (λ x. x .current) (k .world))
 
 -- ------------------------------------------------------------------------
 -- Takes
@@ -103,35 +99,46 @@ taken-more w true ps x =
     by false = omega arith
 taken-more w false ps x = rw (and-false (isOwn w x))
 
--- at the window that works, one of its own more is taken by a Take of one that is answered 0
-worked-takes : {s : Step} {reply : Reply} {p′ : Side} (wd : World) (w : ℕ) → Worked (wd .journal) (wd .limit) w s reply (sideAt w wd) p′ →
-    ownTaken w p′ ≡ oneMore (isTakeOf w wd s && isDone reply) (ownTaken w (sideAt w wd))
+-- one of its own more is taken by a Take of one that is answered 0, and by no other step
+worked-takes : {s : Step} {p′ : Side} (wd : World) (w : ℕ) →
+    Worked (wd .journal) (wd .limit) w s (step s wd .reply) (sideAt w wd) p′ →
+    ownTaken w p′ ≡ oneMore (takesOwn w wd s && isDone (step s wd .reply)) (ownTaken w (sideAt w wd))
 unfolding takeFront
-worked-takes wd w (caught t i is k e) = rw (is, e)
-worked-takes wd w (sent out is k e) = rw (is, e)
-worked-takes wd w (written t is off e) = rw (is, e)
-worked-takes wd w (took acks is x rest front replied e) =
-    rw (is, replied, e, eq-eqb w w refl, front)
+worked-takes wd w (caught k) = rw (k .is, k .side)
+worked-takes wd w (sent k) = rw (k .is, k .side)
+worked-takes wd w (written k) = rw (k .is, k .side)
+worked-takes wd w (took k) =
+    let x : Sent = k .entry in
+    rw (k .replied, k .is, k .side, eq-eqb w w refl, k .front)
     (taken-more w (eqb (takeNumbers (fiveOf (x .placed)) (sideAt w wd .record′) .number) 0) (sideAt w wd .taken) (x .placed))
-worked-takes wd w (acked is a rest front taken e) = rw (is, e)
+worked-takes wd w (acked k) = rw (k .is, k .side)
 
--- and at no other
-worked-others : {j : List Entry} {limit v : ℕ} {s : Step} {reply : Reply} {p p′ : Side} (wd : World) (w : ℕ) → (w ≡ v → ⊥) →
-    Worked j limit v s reply p p′ → isTakeOf w wd s ≡ false
-worked-others wd w n (caught t i is k e) = ap (isTakeOf w wd) is
-worked-others wd w n (sent out is k e) = ap (isTakeOf w wd) is
-worked-others wd w n (written t is off e) = ap (isTakeOf w wd) is
-worked-others {v = v} wd w n (took acks is x rest front replied e) = ap (isTakeOf w wd) is ∙ rw (ne-eqb v w (λ m. n (sym m)))
-worked-others wd w n (acked is a rest front taken e) = ap (isTakeOf w wd) is
+and-across : (a b c : Bool) → (a && c) ≡ false → ((a && b) && c) ≡ false
+and-across true true c e = e
+and-across true false c e = refl
+and-across false b c e = refl
 
-work-takes : (w : ℕ) (s : Step) (reply : Reply) (wd wd′ : World) → w < length (wd .sides) → Work s reply wd wd′ →
-    ownTaken w (sideAt w wd′) ≡ oneMore (isTakeOf w wd s && isDone reply) (ownTaken w (sideAt w wd))
-work-takes w s reply wd wd′ h (stays idle e) = rw (idle, and-false (isTakeOf w wd s)) (ap (λ x. ownTaken w (sideAt w x)) e)
-work-takes w s reply wd wd′ h (mains i is done m) = rw is (ap (ownTaken w) (m .each w h))
-work-takes w s reply wd wd′ h (works v k p′ work e sh) =
-    ap (λ x. ownTaken w (sideAt w x)) e
-    ∙ getD-set-each (λ u p. ownTaken u p ≡ oneMore (isTakeOf u wd s && isDone reply) (ownTaken u (sideAt u wd)))
-    (wd .sides) v w p′ noSide k (worked-takes wd v work) (λ n. rw (worked-others wd w n work))
+step-takes : (wd : World) (s : Step) (w : ℕ) → Reached wd → w < length (wd .sides) →
+    ownTaken w (sideAt w (step s wd .world)) ≡ oneMore (takesOwn w wd s && isDone (step s wd .reply)) (ownTaken w (sideAt w wd))
+step-takes wd s w r h = by (side-moves wd s (r .inShape) w h)
+  where
+    -- a step that is no Take, and leaves what is taken
+    none : (x : Step) → s ≡ x → isTakeAt w (sortOf x) ≡ false → {p : Side} → sideAt w (step s wd .world) ≡ p →
+        p .taken ≡ sideAt w wd .taken →
+        ownTaken w (sideAt w (step s wd .world)) ≡ oneMore (takesOwn w wd s && isDone (step s wd .reply)) (ownTaken w (sideAt w wd))
+    none x is untaken side same =
+        let other : isTakeAt w (sortOf s) ≡ false = ap (λ x. isTakeAt w (sortOf x)) is ∙ untaken in
+        ap (ownTaken w) side ∙ ap (λ ps. length (ownOf w ps)) same ∙ rw other
+
+    by : Moved s wd w (sideAt w wd) (sideAt w (step s wd .world)) →
+        ownTaken w (sideAt w (step s wd .world)) ≡ oneMore (takesOwn w wd s && isDone (step s wd .reply)) (ownTaken w (sideAt w wd))
+    by (still k) = rw (and-across (isTakeAt w (sortOf s)) (ownFront w (sideAt w wd .line)) _ (k .taken)) (ap (ownTaken w) (k .side))
+    by (appended k) = none (append (k .by .entry)) (k .by .is) refl (k .side) refl
+    by (mained k) = none (main (k .by .index)) (k .by .is) refl (k .side) refl
+    by (worked k) = worked-takes wd w (k .work)
+    by (dropped-here k) = none (drop w) (k .is) refl (k .side) refl
+    by (joined-here k) = none (join w) (k .is) refl (k .side) refl
+    by (started-here k) = none (start (k .by .settings)) (k .by .is) refl (k .side) refl
 
 -- what a window has taken of its own and what it has still to take are together its own entries
 to-take : (j : List Entry) (w : ℕ) (p : Side) → Taken j w (p .record′) (p .taken) →
@@ -158,20 +165,20 @@ left-itself : (wd : World) → Reached wd → Left wd wd
 left-itself wd r = record { reached = r; journal = refl; count = refl }
 
 left-step : (left wd : World) (s : Step) → Reached wd → Left left wd →
-    Left (cond (begins s (step s wd .reply)) (step s wd .world) left) (step s wd .world)
+    Left (cond (begins (sortOf s) (isDone (step s wd .reply))) (step s wd .world) left) (step s wd .world)
 left-step left wd s r l =
     ⊎-elim (λ begun. rw begun (left-itself (step s wd .world) (reached-step wd s r)))
     (λ k.
     rw (k .0)
     (record {
       reached = l .reached;
-      journal = l .journal ∙ sym (work-journal wd _ (k .1));
-      count = l .count ∙ sym (step-count wd s r);
+      journal = l .journal ∙ sym (work-journal wd (k .1));
+      count = l .count ∙ sym (step-count wd s (r .inShape));
     }))
-    (begun-or-working wd s r)
+    (begun-or-working wd s (r .inShape))
 
 left-run : (left wd : World) (ss : List Step) → Reached wd → Left left wd → Left (leftBy left wd ss) (run wd ss)
-unfolding leftBy run
+unfolding leftBy runBy
 left-run left wd [] r l = l
 left-run left wd (s ∷ ss) r l = left-run _ (step s wd .world) ss (reached-step wd s r) (left-step left wd s r l)
 
@@ -192,10 +199,9 @@ module _ (wd : World) (steps : List Step) (r : Reached wd) where
   left-now = left-run wd wd steps r (left-itself wd r)
 
   -- A result to be read: at any time the Mains answered 0 since the last fault or append, and `current` as it was left, are `current`.
-  pub mains-so-far : doneSince isMain 0 wd steps + left .current ≡ now .current
+  pub mains-so-far : doneSince Counts.reads 0 wd steps + left .current ≡ now .current
   mains-so-far =
-      counted isMain (λ x. x .current) (length (wd .sides)) (λ s reply x x′ c. work-reads s reply x x′)
-      0 wd wd steps r refl (zero-add (wd .current))
+      counted Counts.reads (λ x. x .current) (length (wd .sides)) (λ x s r c. work-reads x) 0 wd wd steps r refl (zero-add (wd .current))
 
   module _ (w : ℕ) (h : w < length (wd .sides)) where
     within-now : w < length (now .sides)
@@ -209,14 +215,13 @@ module _ (wd : World) (steps : List Step) (r : Reached wd) where
         subst (λ j. Taken j w (sideAt w left .record′) (sideAt w left .taken)) (left-now .journal)
         (left-now .reached .each w (omega (arith, left-now .count, within-now)) .taken)
 
-    -- A result to be read: at any time the Takes of a window's own answered 0 since the last fault or append, and the planner's first figure
-    -- now, are its first figure then.
-    pub takes-so-far : doneSince (isTakeOf w) 0 wd steps + figuresFor w now now .entries ≡ figuresFor w left now .entries
+    -- A result to be read: at any time the Takes of a window's own answered 0 since the last fault or append, and the planner's first
+    -- figure now, are its first figure then.
+    pub takes-so-far : doneSince (takesOwn w) 0 wd steps + figuresFor w now now .entries ≡ figuresFor w left now .entries
     unfolding figures
     takes-so-far =
-        let takes = counted (isTakeOf w) (λ x. ownTaken w (sideAt w x)) (length (wd .sides))
-        (λ s reply x x′ c. work-takes w s reply x x′ (omega arith))
-        0 wd wd steps r refl (zero-add (ownTaken w (sideAt w wd))) in
+        let takes = counted (takesOwn w) (λ x. ownTaken w (sideAt w x)) (length (wd .sides))
+        (λ x s r c work. step-takes x s w r (omega arith)) 0 wd wd steps r refl (zero-add (ownTaken w (sideAt w wd))) in
         omega (arith, to-take (now .journal) w (sideAt w left) taken-left, to-take (now .journal) w (sideAt w now) taken-now)
 
     -- a window that has taken all of its own entries has none to take
@@ -234,14 +239,14 @@ module _ (wd : World) (steps : List Step) (r : Reached wd) where
 
 -- Document 02's counts, for every W, batch limit, spacing, first term, set of silent windows, journal and list of steps
 pub exact-counts : ExactCounts
-exact-counts before j count limit spacing first silent steps done =
-    let wd : World = firstWorld before j count limit spacing first silent in
-    let r : Reached wd = opened-reached before j count limit spacing first silent done in
-    let n : length (wd .sides) ≡ count = opened-count before j count limit spacing first silent done in
+exact-counts before j count settings steps done =
+    let wd : World = firstWorld before j count settings in
+    let r : Reached wd = opened-reached before j count settings done in
+    let n : length (wd .sides) ≡ count = opened-count before j count settings done in
     record {
       asked = λ w h. figures-now wd steps r w (omega arith);
       takes = λ joined none w h.
-          let all = demand-3 before j count limit spacing first silent steps done .finish joined none w h in
+          let all = demand-3 before j count settings steps done .finish joined none w h in
           omega (arith, takes-so-far wd steps r w (omega arith), none-to-take wd steps r w (omega arith) all);
       mains = λ joined none. omega (arith, mains-so-far wd steps r, all-read (run wd steps) (reached-now wd steps r) none);
     }

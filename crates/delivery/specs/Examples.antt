@@ -11,20 +11,23 @@ use Rattle.journal.specs.Entry.{entry4, numbersOf, entriesOf, entryAt, hasWindo
 use Rattle.journal.specs.Own.{own}
 use Rattle.lists.specs.All.{all}
 use Rattle.lists.specs.Above.{above}
+use Rattle.lists.specs.Same.{sameList}
 use Rattle.record.specs.Record.{raceAfter, racesAfter, recordAfter, takeEntry, takeNumbers}
+use Rattle.record.specs.Same.{sameRace, sameRecord}
+use Rattle.rules.specs.declared.Settings.{Settings}
 use Rattle.rules.specs.declared.Term.{Term}
 use Rattle.rules.specs.View.{normal, WindowView, PlayerView}
 use Rattle.rules.specs.Shape.{windowShape, shape}
-use Rattle.rules.specs.Window.{unheard, check, enqueue, readAt, tickAt, mainAt, fetched, catchIn, catchAt, readyIn, batchOf, launched, sendAt, writtenAt, ackAt, dropAt, joinAt}
+use Rattle.rules.specs.Window.{startedSilent, check, enqueue, readAt, tickAt, mainAt, fetched, catchIn, catchAt, readyIn, batchOf, launched, sendAt, writtenAt, ackAt, dropAt, joinAt}
 use Rattle.rules.specs.Rules.{speaks, operate, mapWindows, mainRule, catchRule, writtenRule, ackRule, dropRule, joinRule, sendRule, saidFrom, sentFor, spoken, least, startRule}
-use Rattle.delivery.specs.World.{World, sideAt, withViews, withPlayer, onLine, takeFront, Step, main, catch, written, send, take, ack, late-ack, drop, join, start, Reply, answered, empty, unmade, step, run, replies, opened}
-use Rattle.delivery.specs.Same.{sameList, sameWindow, sameRace, sameRecord, sameEntry, sameSent, sameAck, sameSide, sameWorld}
-use Rattle.delivery.specs.Statement.{changes, joinedAfter, firstWorld}
+use Rattle.delivery.specs.World.{World, sideAt, withViews, withPlayer, onLine, takeFront, Step, main, catch, written, send, take, ack, late-ack, drop, join, start, Reply, answered, empty, unmade, stepBy, run, runBy, replies, repliesBy, opened}
+use Rattle.delivery.specs.Same.{sameWindow, sameEntry, sameSent, sameAck, sameSide, sameWorld}
+use Rattle.delivery.specs.Statement.{changes, changesBy, joinedAfter, joinedAfterBy, firstWorld}
 
 -- to unfold this is to unfold the definitions that a run computes with
 unfoldable pub computed : Unit {0}
 unfolding
-    replies run step opened withViews withPlayer onLine takeFront
+    repliesBy runBy stepBy opened withViews withPlayer onLine takeFront
     startRule saidFrom sentFor spoken least mainRule catchRule writtenRule ackRule dropRule joinRule sendRule operate mapWindows
     shape windowShape all
     check enqueue readAt tickAt mainAt fetched catchIn catchAt readyIn batchOf launched sendAt writtenAt ackAt dropAt joinAt above
@@ -34,7 +37,7 @@ computed = tt
 
 -- to unfold this is to unfold the definitions that changes are counted with
 counted : Unit {0}
-unfolding changes joinedAfter sameWorld sameSide sameWindow sameRecord sameRace sameSent sameEntry sameAck sameList
+unfolding changesBy joinedAfterBy sameWorld sameSide sameWindow sameRecord sameRace sameSent sameEntry sameAck sameList
 counted = tt
 
 abbrev pub done : Reply
@@ -58,9 +61,13 @@ wide = 65535
 abbrev pub term : ℕ → Term
 term n = record { 0 = n }
 
--- a run's beginning: W windows, batch limit 2, first term 1, and a set of silent windows
+-- batch limit 2, a first term and a set of silent windows
+abbrev pub chosen : (first silent : ℕ) → Settings
+chosen first silent = record { limit = 2; spacing = wide; first = term first; silent = silent }
+
+-- a run's beginning: W windows, first term 1, and a set of silent windows
 abbrev pub openedWithout : ℕ → List Entry → ℕ → World
-openedWithout silent j count = firstWorld nobody j count 2 wide (term 1) silent
+openedWithout silent j count = firstWorld nobody j count (chosen 1 silent)
 
 -- no window is silent
 abbrev pub openedWith : List Entry → ℕ → World
@@ -95,7 +102,7 @@ drop-before-ack = record { answers = refl; window0 = refl; acknowledged = refl }
 -- ack is due. The second entry was on the line; it is sent again, and taken once.
 abbrev pub startSteps : List Step
 startSteps =
-    main 1 ∷ main 2 ∷ send 0 room ∷ take 0 true ∷ start 2 wide (term 2) 0 ∷ late-ack 0 (term 1) 1 ∷ take 0 false
+    main 1 ∷ main 2 ∷ send 0 room ∷ take 0 true ∷ start (chosen 2 0) ∷ late-ack 0 (term 1) 1 ∷ take 0 false
     ∷ main 1 ∷ main 2 ∷ send 0 room ∷ written 0 (term 1) ∷ late-ack 0 (term 1) 2 ∷ written 0 (term 2) ∷ take 0 false ∷ ack 0 ∷ []
 
 pub record StartInBatch : Type 0 where
@@ -113,8 +120,8 @@ start-in-batch = record { answers = refl; window0 = refl; acknowledged = refl }
 -- a Start sets it. Where it is the last term there is, no window joins and no Start is made.
 abbrev pub termSteps : List Step
 termSteps =
-    start 2 wide (term 1) 0 ∷ drop 0 ∷ join 0 ∷ start 2 wide (term 2) 0 ∷ start 2 wide (term 3) 0 ∷ start 2 wide (term 3) 0
-    ∷ start 2 wide (term 4294967295) 2 ∷ join 1 ∷ drop 0 ∷ join 0 ∷ start 2 wide (term 4294967295) 0 ∷ []
+    start (chosen 1 0) ∷ drop 0 ∷ join 0 ∷ start (chosen 2 0) ∷ start (chosen 3 0) ∷ start (chosen 3 0)
+    ∷ start (chosen 4294967295 2) ∷ join 1 ∷ drop 0 ∷ join 0 ∷ start (chosen 4294967295 0) ∷ []
 
 pub record TermsUsed : Type 0 where
   pub first : openedWith afternoon 2 .greatest ≡ 1
@@ -140,7 +147,7 @@ forgetful wd = record {
 }
 
 abbrev pub usedSteps : List Step
-usedSteps = start 2 wide (term 1) 0 ∷ main 1 ∷ send 0 room ∷ written 0 (term 1) ∷ []
+usedSteps = start (chosen 1 0) ∷ main 1 ∷ send 0 room ∷ written 0 (term 1) ∷ []
 
 pub record PremiseNeeded : Type 0 where
   pub had : sideAt 0 (openedWith afternoon 2) .view .term ≡ term 1
@@ -151,8 +158,8 @@ pub premise-needed : PremiseNeeded
 unfolding computed
 premise-needed = record { had = refl; answers = refl; freed = refl }
 
--- A window acks in the middle of a batch: its first entry is acknowledged, and the batch is not. The line drops with the second entry on it;
--- the window joins from what it has taken, fetches the second entry anew and takes it, and all is acknowledged.
+-- A window acks in the middle of a batch: its first entry is acknowledged, and the batch is not. The line drops with the second entry on
+-- it; the window joins from what it has taken, fetches the second entry anew and takes it, and all is acknowledged.
 abbrev pub earlySteps : List Step
 earlySteps = main 1 ∷ main 2 ∷ send 0 room ∷ take 0 true ∷ ack 0 ∷ []
 
@@ -186,7 +193,7 @@ lateSteps =
     join 1 ∷ catch 1 (term 2) 1 ∷ catch 1 (term 2) 2 ∷ catch 1 (term 2) 3 ∷ send 1 room ∷ take 1 false ∷ take 1 false ∷ ack 1 ∷ []
 
 pub record SilentAtStart : Type 0 where
-  pub held : sideAt 1 window1Silent .view ≡ unheard (term 1) 3
+  pub held : sideAt 1 window1Silent .view ≡ startedSilent (term 1) 3
   pub read : window1Silent .current ≡ 0
   pub answers : replies window1Silent stepsBefore ≡ done ∷ done ∷ done ∷ answered 3 ∷ empty ∷ done ∷ done ∷ done ∷ done ∷ []
   pub others : sideAt 0 (run window1Silent stepsBefore) .taken ≡ own afternoon 0
@@ -222,7 +229,7 @@ all-silent = record { read = refl; answers = refl; window1 = refl }
 -- The player starts anew in the middle of a batch, and the window that was taking it is silent: its line is empty, and it is not joined. It
 -- joins from what it has taken, is sent the second entry again, and takes it once.
 abbrev pub silentSteps : List Step
-silentSteps = main 1 ∷ main 2 ∷ send 0 room ∷ take 0 false ∷ start 2 wide (term 2) 1 ∷ []
+silentSteps = main 1 ∷ main 2 ∷ send 0 room ∷ take 0 false ∷ start (chosen 2 1) ∷ []
 
 abbrev pub againSteps : List Step
 againSteps =
@@ -230,7 +237,7 @@ againSteps =
 
 pub record SilentInBatch : Type 0 where
   pub answers : replies (openedWith afternoon 2) silentSteps ≡ done ∷ done ∷ done ∷ done ∷ done ∷ []
-  pub held : sideAt 0 (run (openedWith afternoon 2) silentSteps) .view ≡ unheard (term 2) 3
+  pub held : sideAt 0 (run (openedWith afternoon 2) silentSteps) .view ≡ startedSilent (term 2) 3
   pub apart : joinedAfter 0 true (openedWith afternoon 2) silentSteps ≡ false
   pub other : joinedAfter 1 true (openedWith afternoon 2) silentSteps ≡ true
   pub again : replies (run (openedWith afternoon 2) silentSteps) againSteps ≡

@@ -20,7 +20,8 @@ use Rattle.rules.specs.Rules.{windowAt, ackRule, sentFor}
 use Rattle.delivery.specs.World.{Sent, Ack, Side, World, sideAt, numbersIn, playerIn, Step, main, catch, written, send, ack, step}
 use Rattle.delivery.specs.World as W
 use Rattle.delivery.specs.SameLaws.{seen, WorldIs, sameWorld-equal}
-use Rattle.delivery.specs.Statement.{isWork, NoneCan}
+use Rattle.delivery.specs.Sorts.{sortOf, isWork}
+use Rattle.delivery.specs.Statement.{NoneCan}
 use Rattle.delivery.specs.Invariant.{Whole, Queues, Inv, Reached, lastOf, lineEntries}
 use Rattle.delivery.specs.Lines.{line-here, unacked-none}
 use Rattle.delivery.specs.Queued.{isEmpty-append}
@@ -99,7 +100,7 @@ module _ (wd : World) (r : Reached wd) (none : NoneCan wd) where
       (le-or-lt (length (wd .journal)) (wd .current))
 
   -- no window has work to do
-  no-work : (w : ℕ) (s : Step) → isWork s ≡ true → WorksAt s wd w → ⊥
+  no-work : (w : ℕ) (s : Step) → isWork (sortOf s) ≡ true → WorksAt s wd w → ⊥
   no-work w s is k =
       let l : ℕ = length (wd .journal) in
       let same : seen (sideAt w wd) ≡ seen (sideAt w (step s wd .world)) = sameWorld-equal wd (step s wd .world) (none s is) .sides w in

@@ -96,7 +96,8 @@ endsOf (s ∷ l) = cond (s .ends) (s .placed .index ∷ endsOf l) (endsOf l)
 -- The acks on the way back rise from the acknowledged index to last. The unacknowledged batches rise from the acknowledged index to sent,
 -- and each has its ack on the way back or its last entry on the line; a Suspended window (`away`) has none. Of another the newest ends at
 -- sent, and where there is none all that is sent is acknowledged.
-pub record Unacknowledged (away : Bool) (t : Term) (acked last sent : ℕ) (batches : List ℕ) (line : List Sent) (back : List Ack) : Type 0 where
+pub record Unacknowledged (away : Bool) (t : Term) (acked last sent : ℕ) (batches : List ℕ) (line : List Sent) (back : List Ack)
+    : Type 0 where
   pub ackedLast : acked ≤ last
   pub backTerms : BackTerms t back
   pub backRises : Rising acked (backIndices back) last
@@ -158,8 +159,8 @@ pub record Inv (j : List Entry) (current w : ℕ) (p : Side) : Type 0 where
   pub taken : Taken j w (p .record′) (p .taken)
   pub flight : InFlight j w (isSuspended (p .view .condition)) (p .view .term) (lastOf p) (p .view .sent) (p .line)
   pub unacked :
-      Unacknowledged (isSuspended (p .view .condition)) (p .view .term) (p .view .acked) (lastOf p) (p .view .sent) (p .view .batches) (p .line)
-      (p .back)
+      Unacknowledged (isSuspended (p .view .condition)) (p .view .term) (p .view .acked) (lastOf p) (p .view .sent) (p .view .batches)
+      (p .line) (p .back)
   pub queues : QueuesOf j current w (p .view) (p .view .condition)
   pub busySent : p .view .busy ≡ true → 1 ≤ p .view .sent
 

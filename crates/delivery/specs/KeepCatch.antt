@@ -3,23 +3,23 @@ use Prim.Native.Nat.{ℕ, _+_, _≤_, _<_}
 use mathlib.Core.Path.{_≡_, refl, subst, subst⁻¹}
 use mathlib.Core.Logic.{⊎-elim}
 use mathlib.Core.List.{List, [], _∷_, _++_}
-use mathlib.Core.Bool.{cond, and-true}
+use mathlib.Core.Bool.{Bool, true, cond}
 use native.Mathlib.Omega.{arith}
-use borrow.Author.Tests.{lt-ltb}
 use Rattle.journal.specs.declared.Entry.{Entry}
 use Rattle.journal.specs.Entry.{isFor}
-use Rattle.lists.specs.Cases.{le-or-lt, and-left}
+use Rattle.lists.specs.Cases.{le-or-lt}
 use Rattle.rules.specs.declared.Term.{Term}
 use Rattle.rules.specs.View.{normal, fetching, completed, WindowView}
 use Rattle.rules.specs.Shape.{isEmpty}
-use Rattle.rules.specs.Window.{requeue, wanted, fetched}
-use Rattle.rules.specs.Offers.{oneIf, fetched-more, fetched-last, Caught}
+use Rattle.rules.specs.Window.{requeue, fetched}
+use Rattle.rules.specs.Offers.{oneIf, fetched-more, fetched-last, Caught, catchEffect}
 use Rattle.delivery.specs.World.{Side, withView}
 use Rattle.delivery.specs.Invariant.{Inv, Holds, TickFirst, FetchingQueues}
 use Rattle.delivery.specs.Queued.{holds-to, holds-next, holds-append, plain-first, first-more, withQueues, withQueues-same, keep-requeue}
 
--- a window that is Fetching i u, with its queues named
-module _ (j : List Entry) (c w : ℕ) (p : Side) (n q : List ℕ) (i u : ℕ) (inv : Inv j c w (withQueues n q (fetching i u) p)) where
+-- a window that is Fetching i u, with its queues named, for which the entry at i is appended, b, or is not
+module _ (j : List Entry) (c w : ℕ) (p : Side) (n q : List ℕ) (i u : ℕ) (b : Bool) (own : b ≡ true → isFor j w i ≡ true)
+    (due : p .view .acked < i → isFor j w i ≡ b) (inv : Inv j c w (withQueues n q (fetching i u) p)) where
   abbrev view : WindowView
   view = requeue n q (fetching i u) (p .view)
 
@@ -28,24 +28,20 @@ module _ (j : List Entry) (c w : ℕ) (p : Side) (n q : List ℕ) (i u : ℕ) (i
 
   -- the catch-up queue after the step
   abbrev after : List ℕ
-  after = q ++ oneIf (wanted j w i (p .view)) i
+  after = q ++ oneIf b i
 
   after-has : Holds j w (p .view .sent) i after
-  after-has =
-      let e : isFor j w i ≡ wanted j w i (p .view)
-      = simp (lt-ltb (p .view .acked) i (omega (arith, inv .unacked .ackedLast, inv .flight .lastSent, is .behind)), and-true) in
-      holds-next i (wanted j w i (p .view)) e (is .behind) (is .catchHas)
+  after-has = holds-next i b (due (omega (arith, inv .unacked .ackedLast, inv .flight .lastSent, is .behind))) (is .behind) (is .catchHas)
 
   after-first : TickFirst j w after
-  after-first =
-      first-more i (wanted j w i (p .view)) (λ want. and-left (isFor j w i) _ want) (is .tickFirst)
+  after-first = first-more i b own (is .tickFirst)
 
   abbrev Kept : WindowView → Type 0
   Kept v = Inv j c w (withView v p)
 
-  more : i < u → Kept (fetched (wanted j w i (p .view)) i u view)
+  more : i < u → Kept (fetched b i u view)
   more h =
-      subst⁻¹ Kept (fetched-more (wanted j w i (p .view)) i u view h)
+      subst⁻¹ Kept (fetched-more b i u view h)
       (keep-requeue n after (fetching (i + 1) u) inv refl
       (record {
         behind = omega (arith, is .behind);
@@ -57,10 +53,11 @@ module _ (j : List Entry) (c w : ℕ) (p : Side) (n q : List ℕ) (i u : ℕ) (i
         noTick = is .noTick;
       }))
 
-  last : u ≤ i → Kept (fetched (wanted j w i (p .view)) i u view)
-  last h = subst⁻¹ Kept (fetched-last (wanted j w i (p .view)) i u view h) (by after (holds-to (omega (arith, is .order)) after-has) after-first)
+  last : u ≤ i → Kept (fetched b i u view)
+  last h = subst⁻¹ Kept (fetched-last b i u view h) (by after (holds-to (omega (arith, is .order)) after-has) after-first)
     where
-      by : (q′ : List ℕ) → Holds j w (p .view .sent) u q′ → TickFirst j w q′ → Kept (requeue n q′ (cond (isEmpty q′) normal (completed u)) (p .view))
+      by : (q′ : List ℕ) → Holds j w (p .view .sent) u q′ → TickFirst j w q′ →
+          Kept (requeue n q′ (cond (isEmpty q′) normal (completed u)) (p .view))
       by [] has first =
           keep-requeue n [] normal inv refl
           (record {
@@ -80,12 +77,12 @@ module _ (j : List Entry) (c w : ℕ) (p : Side) (n q : List ℕ) (i u : ℕ) (i
             noTick = is .noTick;
           })
 
-  keep-fetched : Kept (fetched (wanted j w i (p .view)) i u view)
+  keep-fetched : Kept (fetched b i u view)
   keep-fetched = ⊎-elim last more (le-or-lt u i)
 
-pub keep-catch : (j : List Entry) (c w : ℕ) (p : Side) → Inv j c w p → (t : Term) (i : ℕ) (caught : Caught j w t i (p .view)) →
-    Inv j c w (withView (fetched (wanted j w i (p .view)) i (caught .upto) (p .view)) p)
-keep-catch j c w p inv t i caught =
-    let e = withQueues-same p (fetching i (caught .upto)) (caught .was) in
-    subst⁻¹ (λ x. Inv j c w (withView (fetched (wanted j w i (x .view)) i (caught .upto) (x .view)) x)) e
-    (keep-fetched j c w p (p .view .normalQueue) (p .view .catchQueue) i (caught .upto) (subst (Inv j c w) e inv))
+pub keep-catch : {j : List Entry} {c w : ℕ} {p : Side} → Inv j c w p → (t : Term) (i : ℕ) (caught : Caught j w t i (p .view)) →
+    Inv j c w (withView (catchEffect w t i .makes j (p .view) caught) p)
+keep-catch {j} {c} {w} {p} inv t i d =
+    let e = withQueues-same p (fetching i (d .upto)) (d .was) in
+    subst⁻¹ (λ x. Inv j c w (withView (fetched (d .appends) i (d .upto) (x .view)) x)) e
+    (keep-fetched j c w p (p .view .normalQueue) (p .view .catchQueue) i (d .upto) (d .appends) (d .own) (d .due) (subst (Inv j c w) e inv))

@@ -14,7 +14,7 @@ use Rattle.lists.specs.Elem.{lastOr}
 use Rattle.lists.specs.Keep.{map-alike}
 use Rattle.rules.specs.declared.Term.{Term}
 use Rattle.rules.specs.View.{Condition, normal, fetching, completed, suspended, WindowView}
-use Rattle.rules.specs.Window.{isSuspended, dropped, joined, told, silence, started, unheard, startedBy}
+use Rattle.rules.specs.Window.{isSuspended, dropped, joined, told, silence, started, startedSilent, startedBy}
 use Rattle.rules.specs.Rules.{speaks, saidBy, sentFor}
 use Rattle.rules.specs.Offers.{sentFor-append}
 use Rattle.delivery.specs.World.{Sent, Side, withView, cleared}
@@ -81,7 +81,7 @@ begun {j} {c} {w} p v taken acked sent free none queues = record {
 
 -- a window that is silent, with nothing on its line
 silenced : {j : List Entry} {c w : ℕ} (first : Term) (p : Side) → Taken j w (p .record′) (p .taken) →
-    Inv j c w (cleared (withView (unheard first (length j)) p))
+    Inv j c w (cleared (withView (startedSilent first (length j)) p))
 silenced {j} first p taken = record {
   taken = taken;
   flight = record { lastSent = taken .lastIn; sentIn = le-refl (length j); lineIs = nothing refl refl; lineTerms = tt };

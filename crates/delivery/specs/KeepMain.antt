@@ -49,7 +49,8 @@ module _ (j : List Entry) (c w : ℕ) (p : Side) where
         let want : wanted j w (suc c) (p .view) ≡ true = wanted-own true sent own in
         ⊎-elim (full want)
         (λ (room : length n < 128).
-        by-law (n ++ (suc c ∷ [])) q s refl (readAt-room j w (suc c) (view n q s) want here room) (queues true (λ e. own) (holds-more true own h is)))
+        by-law (n ++ (suc c ∷ [])) q s refl (readAt-room j w (suc c) (view n q s) want here room)
+        (queues true (λ e. own) (holds-more true own h is)))
         (le-or-lt 128 (length n)))
         (λ (other : isFor j w (suc c) ≡ false).
         by-law n q s refl (readAt-other j w (suc c) (view n q s) (wanted-own false sent other))

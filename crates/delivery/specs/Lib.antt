@@ -1,6 +1,8 @@
 -- Demand 3: a world of player, windows and lines, its steps, and what holds of every list of steps.
+pub mod Machine
 pub mod World
 pub mod Same
+pub mod Sorts
 pub mod Statement
 pub mod Counts
 pub mod Stragglers
@@ -19,6 +21,7 @@ pub mod Effects
 pub mod Stepped
 pub mod SteppedLine
 pub mod SteppedAll
+pub mod Moves
 pub mod Reach
 pub mod SameLaws
 pub mod Measure
@@ -30,3 +33,4 @@ pub mod OldTerms
 pub mod Ticks
 pub mod ExactCounts
 pub mod CountExamples
+pub mod Offers

@@ -12,9 +12,9 @@ use Rattle.lists.specs.Rising.{Rising}
 use Rattle.lists.specs.Elem.{lastOr}
 use Rattle.rules.specs.View.{Condition, normal, fetching, completed, suspended, WindowView}
 use Rattle.rules.specs.Shape.{isEmpty}
-use Rattle.rules.specs.Window.{wanted, requeue, mainAt, fetched, batchOf, launched, Batch}
+use Rattle.rules.specs.Window.{requeue, mainAt, fetched, batchOf, launched, Batch}
 use Rattle.rules.specs.Offers.{ConditionAfter, same, emptied, batchOf-condition, batchOf-untouched, oneIf, mainAt-either, fetched-more, fetched-last, launched-is}
-use Rattle.delivery.specs.World.{Side, withView, takeFront, Step, Reply}
+use Rattle.delivery.specs.World.{Sent, Side, withView, takeFront, Step, Reply}
 use Rattle.delivery.specs.Invariant.{FetchingQueues, Inv, lastOf, backIndices}
 use Rattle.delivery.specs.Queued.{queues-in}
 use Rattle.delivery.specs.KeepSend.{Launched, keep-send}
@@ -81,14 +81,16 @@ module _ {j : List Entry} {c w : ℕ} {p : Side} (inv : Inv j c w p) (read : c �
       was = ap (ahead (length j) c) e
 
       past : upto ≤ i → (t : Bool) →
-          viewWork (length j) c (requeue (p .view .normalQueue) (p .view .catchQueue ++ oneIf b i) (cond t normal (completed upto)) (p .view))
+          viewWork (length j) c
+          (requeue (p .view .normalQueue) (p .view .catchQueue ++ oneIf b i) (cond t normal (completed upto)) (p .view))
           < viewWork (length j) c (p .view)
       past h true = omega (arith, was, is .order, is .read)
       past h false = omega (arith, was, is .order, is .read)
 
   sent-ahead : (s : Condition) → ConditionAfter (p .view .condition) s → ahead (length j) c s ≤ ahead (length j) c (p .view .condition)
   sent-ahead s (same e) = omega (arith, ap (ahead (length j) c) e)
-  sent-ahead s (emptied end e n) = omega (arith, ap (ahead (length j) c) n, ap (ahead (length j) c) e, queues-in inv (completed end) e .read)
+  sent-ahead s (emptied end e n) =
+      omega (arith, ap (ahead (length j) c) n, ap (ahead (length j) c) e, queues-in inv (completed end) e .read)
 
   sent-work : (limit : ℕ) → Launched j c w (batchOf limit (p .view)) p →
       viewWork (length j) c (launched (batchOf limit (p .view))) < viewWork (length j) c (p .view)
@@ -96,17 +98,22 @@ module _ {j : List Entry} {c w : ℕ} {p : Side} (inv : Inv j c w p) (read : c �
       let b : Batch = batchOf limit (p .view) in
       let is = launched-is (b .indices) (b .rest) in
       let top : lastOr 0 (b .indices) ≤ length j = rw is at (out .inv .flight .sentIn) in
-      rw is (omega (arith, out .up, batchOf-untouched limit (p .view) .acked, sent-ahead (b .rest .condition) (batchOf-condition limit (p .view))))
+      let ahead = sent-ahead (b .rest .condition) (batchOf-condition limit (p .view)) in
+      rw is (omega (arith, out .up, batchOf-untouched limit (p .view) .acked))
 
   pub worked-lowers : {s : Step} {reply : Reply} (limit : ℕ) (p′ : Side) → length j ≤ 65535 → Worked j limit w s reply p p′ →
       sideWork (length j) c p′ < sideWork (length j) c p
   unfolding takeFront
-  worked-lowers limit p′ few (caught t i is k e) = rw e (omega (arith, caught-work i (k .upto) (wanted j w i (p .view)) (k .was)))
-  worked-lowers limit p′ few (sent out is k e) = rw e (omega (arith, sent-work limit (keep-send j c w read p inv limit (length out) k)))
-  worked-lowers limit p′ few (written t is off e) = rw e (omega (arith, ap busyOf (off .was)))
-  worked-lowers limit p′ few (took acks is s rest at-front replied e) =
-      let f : Front j w (lastOf p) (p .view .sent) s rest = front (rw at-front at (inv .flight)) in
-      rw e (omega (arith, take-last inv few acks s rest, f .above, f .within, inv .flight .sentIn))
-  worked-lowers limit p′ few (acked is a rest at-front taken e) =
-      let rises : Rising (p .view .acked) (backIndices (a ∷ rest)) (lastOf p) = rw at-front at (inv .unacked .backRises) in
-      rw e (omega (arith, rises .0, rises .1, inv .flight .lastSent, inv .flight .sentIn))
+  worked-lowers limit p′ few (caught k) =
+      rw (k .side) (omega (arith, caught-work (k .index) (k .tells .upto) (k .tells .appends) (k .tells .was)))
+  worked-lowers limit p′ few (sent k) =
+      rw (k .side) (omega (arith, sent-work limit (keep-send j c w read p inv limit (length (k .out)) (k .tells))))
+  worked-lowers limit p′ few (written k) = rw (k .side) (omega (arith, ap busyOf (k .tells .was)))
+  worked-lowers limit p′ few (took k) =
+      let s : Sent = k .entry in
+      let rest : List Sent = k .rest in
+      let f : Front j w (lastOf p) (p .view .sent) s rest = front (rw (k .front) at (inv .flight)) in
+      rw (k .side) (omega (arith, take-last inv few (k .acks) s rest, f .above, f .within, inv .flight .sentIn))
+  worked-lowers limit p′ few (acked k) =
+      let rises : Rising (p .view .acked) (backIndices (k .offer ∷ k .rest)) (lastOf p) = rw (k .front) at (inv .unacked .backRises) in
+      rw (k .side) (omega (arith, rises .0, rises .1, inv .flight .lastSent, inv .flight .sentIn))

@@ -46,7 +46,9 @@ pub record HoldsCut (j : List Entry) (w a b : ℕ) (xs ys : List ℕ) : Type 0 w
 -- what rises and is not empty rises above
 rising-above : (a b : ℕ) (xs : List ℕ) → isEmpty xs ≡ false → Rising a xs b → (a < lastOr 0 xs) × (a < b)
 rising-above a b [] e r = absurd (true≢false e)
-rising-above a b (x ∷ xs) e r = let c = rising-cut x b xs [] (r .1) (rw append-nil (r .2)) in (omega (arith, r .0, c .above), omega (arith, r .0, r .1))
+rising-above a b (x ∷ xs) e r =
+    let c = rising-cut x b xs [] (r .1) (rw append-nil (r .2)) in
+    (omega (arith, r .0, c .above), omega (arith, r .0, r .1))
 
 module _ {j : List Entry} {w : ℕ} where
   pub holds-none : {a b : ℕ} → b ≤ a → Holds j w a b []
@@ -81,7 +83,8 @@ module _ {j : List Entry} {w : ℕ} where
       kept true e = rw e
       kept false e = refl
 
-  pub holds-next : {a : ℕ} {q : List ℕ} (i : ℕ) (t : Bool) → isFor j w i ≡ t → a < i → Holds j w a (i - 1) q → Holds j w a i (q ++ oneIf t i)
+  pub holds-next : {a : ℕ} {q : List ℕ} (i : ℕ) (t : Bool) → isFor j w i ≡ t → a < i → Holds j w a (i - 1) q →
+      Holds j w a i (q ++ oneIf t i)
   holds-next zero t e h is = absurd (omega arith)
   holds-next (suc i) t e h is = holds-more t e (omega arith) (holds-to (omega arith) is)
 
@@ -220,7 +223,8 @@ queues-in inv s e = rw e at (inv .queues)
 
 -- the other parts stay, unless the window becomes Suspended or was
 pub keep-requeue : {j : List Entry} {c c′ w : ℕ} {p : Side} (n q : List ℕ) (s : Condition) → Inv j c w p →
-    isSuspended (p .view .condition) ≡ isSuspended s → Queues j c′ w (p .view .acked) (p .view .sent) n q s → Inv j c′ w (withQueues n q s p)
+    isSuspended (p .view .condition) ≡ isSuspended s → Queues j c′ w (p .view .acked) (p .view .sent) n q s →
+    Inv j c′ w (withQueues n q s p)
 keep-requeue {p = p} n q s inv e queues = record {
   taken = inv .taken;
   flight = rw e at (inv .flight);

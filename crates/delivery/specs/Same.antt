@@ -1,22 +1,11 @@
 -- Whether two worlds look the same: the player, the records and the lines, and nothing else. Each test decides equality.
-use mathlib.Core.List.{List, [], _∷_}
-use mathlib.Core.Bool.{Bool, true, false, not, _&&_}
+use mathlib.Core.Bool.{Bool, true, false, _&&_}
 use lib.Dec.{eqb}
+use Rattle.lists.specs.Same.{sameBool, sameList}
 use Rattle.journal.specs.declared.Entry.{Entry}
-use Rattle.record.specs.declared.Race.{Race}
-use Rattle.record.specs.declared.Record.{Record}
+use Rattle.record.specs.Same.{sameRecord}
 use Rattle.rules.specs.View.{Condition, normal, fetching, completed, suspended, WindowView}
 use Rattle.delivery.specs.World.{Sent, Ack, Side, World}
-
-abbrev pub sameBool : Bool → Bool → Bool
-sameBool true b = b
-sameBool false b = not b
-
-unfoldable pub sameList : {A : Type 0} → (A → A → Bool) → List A → List A → Bool
-sameList f [] [] = true
-sameList f [] (b ∷ ys) = false
-sameList f (a ∷ xs) [] = false
-sameList f (a ∷ xs) (b ∷ ys) = f a b && sameList f xs ys
 
 abbrev pub sameCondition : Condition → Condition → Bool
 sameCondition normal normal = true
@@ -45,12 +34,6 @@ sameWindow a b =
     && (sameList eqb (a .batches) (b .batches)
     && (sameList eqb (a .normalQueue) (b .normalQueue)
     && (sameList eqb (a .catchQueue) (b .catchQueue) && sameCondition (a .condition) (b .condition)))))))
-
-unfoldable pub sameRace : Race → Race → Bool
-sameRace a b = eqb (a .off) (b .off) && (eqb (a .price) (b .price) && sameBool (a .closed) (b .closed))
-
-unfoldable pub sameRecord : Record → Record → Bool
-sameRecord a b = eqb (a .last .0) (b .last .0) && (eqb (a .count) (b .count) && sameList sameRace (a .races) (b .races))
 
 unfoldable pub sameEntry : Entry → Entry → Bool
 sameEntry a b = eqb (a .set) (b .set) && (eqb (a .kind) (b .kind) && (eqb (a .race) (b .race) && eqb (a .value) (b .value)))

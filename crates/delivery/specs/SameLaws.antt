@@ -1,75 +1,24 @@
 -- The tests of `Same` decide equality: a thing is the same as itself, and what is the same is equal.
 use Prim.Native.Nat.{ℕ, zero, suc}
-use mathlib.Core.Path.{_≡_, refl, sym, ap, ap₂, _∙_}
+use mathlib.Core.Path.{_≡_, refl, ap, ap₂}
 use mathlib.Core.List.{List, [], _∷_}
-use mathlib.Core.Bool.{Bool, true, false, _&&_, false≢true}
-use borrow.Author.Tests.{eqb-true, eq-eqb}
+use mathlib.Core.Bool.{true, false≢true}
+use borrow.Author.Tests.{eqb-true}
 use lib.ListN.{getD}
 use lib.Dec.{eqb}
 use Rattle.lists.specs.Cases.{and-left, and-right, and-intro}
+use Rattle.lists.specs.Same.{sameList}
+use Rattle.lists.specs.SameLaws.{DecidesEqual, _&_, made-of, numbers, flags, lists, sameList-itself}
 use Rattle.record.specs.declared.Record.{Record}
+use Rattle.record.specs.SameLaws.{records}
 use Rattle.rules.specs.View.{Condition, normal, fetching, completed, suspended, WindowView}
 use Rattle.delivery.specs.World.{Sent, Ack, Side, World, noSide, sideAt}
-use Rattle.delivery.specs.Same.{sameBool, sameList, sameCondition, sameWindow, sameRace, sameRecord, sameEntry, sameSent, sameAck, sameSide, sameWorld}
+use Rattle.delivery.specs.Same.{sameCondition, sameWindow, sameEntry, sameSent, sameAck, sameSide, sameWorld}
 
 -- ------------------------------------------------------------------------
--- A test that decides equality; of a pair, of what a thing is made of, of a list
+-- What a world is made of
 
-record Decides {A : Type 0} (f : A → A → Bool) : Type 0 where
-  itself : (a : A) → f a a ≡ true
-  equal : (a b : A) → f a b ≡ true → a ≡ b
-
-infixr 20 _&_
-_&_ : {A B : Type 0} {f : A → A → Bool} {g : B → B → Bool} → Decides f → Decides g →
-    Decides {A = A × B} (λ a b. f (a .0) (b .0) && g (a .1) (b .1))
-_&_ {f = f} d e = record {
-  itself = λ a. and-intro (d .itself (a .0)) (e .itself (a .1));
-  equal = λ a b h. ap₂ (λ x y. (x, y)) (d .equal _ _ (and-left _ _ h)) (e .equal _ _ (and-right (f (a .0) (b .0)) _ h));
-}
-
--- the test of its parts decides equality of what is made of them
-made-of : {A B : Type 0} {f : B → B → Bool} → Decides f → (parts : A → B) (made : B → A) → ((a : A) → made (parts a) ≡ a) →
-    Decides {A = A} (λ a b. f (parts a) (parts b))
-made-of d parts made back = record {
-  itself = λ a. d .itself (parts a);
-  equal = λ a b h. sym (back a) ∙ ap made (d .equal (parts a) (parts b) h) ∙ back b;
-}
-
-itself-list : {A : Type 0} (f : A → A → Bool) → ((a : A) → f a a ≡ true) → (xs : List A) → sameList f xs xs ≡ true
-unfolding sameList
-itself-list f h [] = refl
-itself-list f h (x ∷ xs) = and-intro (h x) (itself-list f h xs)
-
-lists : {A : Type 0} {f : A → A → Bool} → Decides f → Decides (sameList f)
-unfolding sameList
-lists {A} {f} d = record { itself = itself-list f (d .itself); equal = equal-list }
-  where
-    equal-list : (xs ys : List A) → sameList f xs ys ≡ true → xs ≡ ys
-    equal-list [] [] e = refl
-    equal-list [] (y ∷ ys) e = absurd (false≢true e)
-    equal-list (x ∷ xs) [] e = absurd (false≢true e)
-    equal-list (x ∷ xs) (y ∷ ys) e = ap₂ (λ a b. a ∷ b) (d .equal x y (and-left _ _ e)) (equal-list xs ys (and-right (f x y) _ e))
-
--- ------------------------------------------------------------------------
--- The tests
-
-numbers : Decides eqb
-numbers = record { itself = λ n. eq-eqb n n refl; equal = eqb-true }
-
-flags : Decides sameBool
-flags = record { itself = itself-flag; equal = equal-flag }
-  where
-    itself-flag : (a : Bool) → sameBool a a ≡ true
-    itself-flag true = refl
-    itself-flag false = refl
-
-    equal-flag : (a b : Bool) → sameBool a b ≡ true → a ≡ b
-    equal-flag true true e = refl
-    equal-flag true false e = sym e
-    equal-flag false true e = e
-    equal-flag false false e = refl
-
-conditions : Decides sameCondition
+conditions : DecidesEqual sameCondition
 conditions = record { itself = itself-condition; equal = equal-condition }
   where
     itself-condition : (s : Condition) → sameCondition s s ≡ true
@@ -96,7 +45,7 @@ conditions = record { itself = itself-condition; equal = equal-condition }
     equal-condition suspended (completed e) h = absurd (false≢true h)
     equal-condition suspended suspended h = refl
 
-windows : Decides sameWindow
+windows : DecidesEqual sameWindow
 unfolding sameWindow
 windows =
     made-of (numbers & numbers & numbers & flags & lists numbers & lists numbers & lists numbers & conditions)
@@ -113,31 +62,19 @@ windows =
     })
     (λ v. refl)
 
-races : Decides sameRace
-unfolding sameRace
-races =
-    made-of (numbers & numbers & flags) (λ r. (r .off, (r .price, r .closed)))
-    (λ (o, (p, c)). record { off = o; price = p; closed = c }) (λ r. refl)
-
-records : Decides sameRecord
-unfolding sameRecord
-records =
-    made-of (numbers & numbers & lists races) (λ r. (r .last .0, (r .count, r .races)))
-    (λ (l, (n, r)). record { last = record { 0 = l }; count = n; races = r }) (λ r. refl)
-
-entries : Decides sameEntry
+entries : DecidesEqual sameEntry
 unfolding sameEntry
 entries =
     made-of (numbers & numbers & numbers & numbers) (λ e. (e .set, (e .kind, (e .race, e .value))))
     (λ (s, (k, (r, v))). record { set = s; kind = k; race = r; value = v }) (λ e. refl)
 
-sents : Decides sameSent
+sents : DecidesEqual sameSent
 unfolding sameSent
 sents =
     made-of (numbers & entries & numbers & flags) (λ s. (s .placed .index, (s .placed .entry, (s .term .0, s .ends))))
     (λ (i, (e, (t, b))). record { placed = record { index = i; entry = e }; term = record { 0 = t }; ends = b }) (λ s. refl)
 
-acks : Decides sameAck
+acks : DecidesEqual sameAck
 unfolding sameAck
 acks = made-of (numbers & numbers) (λ a. (a .term .0, a .index)) (λ (t, i). record { term = record { 0 = t }; index = i }) (λ a. refl)
 
@@ -168,7 +105,7 @@ unfolding sameWorld
 sameWorld-itself wd =
     and-intro (numbers .itself (wd .limit))
     (and-intro (numbers .itself (wd .spacing))
-    (and-intro (numbers .itself (wd .current)) (itself-list sameSide sameSide-itself (wd .sides))))
+    (and-intro (numbers .itself (wd .current)) (sameList-itself sameSide sameSide-itself (wd .sides))))
 
 -- what looks the same has the same `current`, and at each side the same window, record and lines
 pub record WorldIs (a b : World) : Type 0 where

@@ -16,50 +16,58 @@ use Rattle.rules.specs.Shape.{shape}
 use Rattle.rules.specs.Rules.{Outcome, refuse, windowAt, withWindow, catchRule, writtenRule, ackRule, dropRule}
 use Rattle.rules.specs.Refusals.{turnedAway}
 use Rattle.rules.specs.Offers.{Effect, LawfulRule, catchEffect, catchRule-lawful, writtenEffect, writtenRule-lawful, turnedAway-some, catchRule-turned, writtenRule-turned, ackRule-turned, dropEffect, dropRule-lawful}
-use Rattle.delivery.specs.World.{Side, World, noSide, sideAt, numbersIn, playerIn, withView, withPlayer, withSides, withSide, Step, catch, written, late-ack, drop, Reply, answered, unmade, called, calledThen, isLate, step}
+use Rattle.delivery.specs.World.{Side, World, noSide, sideAt, numbersIn, playerIn, withView, withPlayer, withSides, withSide, Step, catch, written, late-ack, drop, Reply, answered, unmade, called, calledThen, isLate, step, stepBy}
 use Rattle.delivery.specs.World as W
-use Rattle.delivery.specs.Statement.{isDone, begins}
+use Rattle.delivery.specs.Sorts.{isDone, sortOf, begins}
 use Rattle.delivery.specs.Worlds.{entries-in, window-in, windows-in, withPlayer-same, withPlayer-window, withSide-here, withSide-twice, withSide-player}
-use Rattle.delivery.specs.Effects.{Worked, stays, works, WorksAt, Facts, working, dropping}
+use Rattle.delivery.specs.Effects.{Worked, WorksAt, idles, serves, Facts, working, dropping}
 use Rattle.delivery.specs.Effects as E
 
 -- ------------------------------------------------------------------------
 -- called, calledThen
 
-pub calledThen-refused : (o : Outcome) (f : World → World) (wd : World) → (o .answer ≡ 0 → ⊥) → calledThen o f wd .world ≡ withPlayer (o .next) wd
+pub calledThen-refused : (o : Outcome) (f : World → World) (wd : World) → (o .answer ≡ 0 → ⊥) →
+    calledThen o f wd .world ≡ withPlayer (o .next) wd
 calledThen-refused o f wd n = simp (ne-eqb (o .answer) 0 n)
 
-pub calledThen-done : (o : Outcome) (f : World → World) (wd : World) → o .answer ≡ 0 → calledThen o f wd .world ≡ f (withPlayer (o .next) wd)
+pub calledThen-done : (o : Outcome) (f : World → World) (wd : World) → o .answer ≡ 0 →
+    calledThen o f wd .world ≡ f (withPlayer (o .next) wd)
 calledThen-done o f wd e = simp (eq-eqb (o .answer) 0 e)
 
 -- a call alone is a call and no change after it
 pub called-then : (o : Outcome) (wd : World) → called o wd ≡ calledThen o (λ x. x) wd
 called-then o wd = go (eqb (o .answer) 0)
   where
-    go : (b : Bool) → called o wd ≡ record { reply = answered (o .answer); world = cond b (withPlayer (o .next) wd) (withPlayer (o .next) wd) }
+    go : (b : Bool) →
+        called o wd ≡ record { reply = answered (o .answer); world = cond b (withPlayer (o .next) wd) (withPlayer (o .next) wd) }
     go true = refl
     go false = refl
 
 -- a call is refused and changes nothing, or does what is known of an answer 0
 pub call-either : (wd : World) (s : Step) (o : Outcome) (f : World → World) → step s wd ≡ calledThen o f wd →
-    ((o .answer ≡ 0 → ⊥) → begins s (answered (o .answer)) ≡ false) → ((o .answer ≡ 0 → ⊥) → o .next ≡ playerIn wd) →
+    ((o .answer ≡ 0 → ⊥) → begins (sortOf s) (eqb (o .answer) 0) ≡ false) → ((o .answer ≡ 0 → ⊥) → o .next ≡ playerIn wd) →
     (o .answer ≡ 0 → Facts s wd) → Facts s wd
 call-either wd s o f calls quiet same done =
     ⊎-elim done
     (λ (n : o .answer ≡ 0 → ⊥).
-    working (ap (λ r. begins s (r .reply)) calls ∙ quiet n)
-    (stays (ap (λ r. isDone (r .reply)) calls ∙ ne-eqb (o .answer) 0 n)
-    (ap (λ r. r .world) calls ∙ calledThen-refused o f wd n ∙ withPlayer-same wd (o .next) (same n))))
+    working (ap (λ r. begins (sortOf s) (isDone (r .reply))) calls ∙ quiet n)
+    (idles
+    (record {
+      undone = ap (λ r. isDone (r .reply)) calls ∙ ne-eqb (o .answer) 0 n;
+      world = ap (λ r. r .world) calls ∙ calledThen-refused o f wd n ∙ withPlayer-same wd (o .next) (same n);
+    })))
     (eq-or-ne (o .answer) 0)
 
 -- a step that is not made, or that is a Take or an Ack where there is no entry or no window
-pub idle-facts : (wd : World) (s : Step) (r : Reply) → begins s r ≡ false → isDone r ≡ false → step s wd ≡ W.stays r wd → Facts s wd
+pub idle-facts : (wd : World) (s : Step) (r : Reply) → begins (sortOf s) false ≡ false → isDone r ≡ false → step s wd ≡ W.stays r wd →
+    Facts s wd
 idle-facts wd s r quiet idle is =
-    working (ap (λ x. begins s (x .reply)) is ∙ quiet) (stays (ap (λ x. isDone (x .reply)) is ∙ idle) (ap (λ x. x .world) is))
+    let undone : isDone (step s wd .reply) ≡ false = ap (λ x. isDone (x .reply)) is ∙ idle in
+    working (ap (begins (sortOf s)) undone ∙ quiet) (idles (record { undone = undone; world = ap (λ x. x .world) is }))
 
 -- a step that does the work of a window is neither a fault nor an append
-pub works-facts : (wd : World) (w : ℕ) (s : Step) → begins s (step s wd .reply) ≡ false → WorksAt s wd w → Facts s wd
-works-facts wd w s quiet k = working quiet (works w (k .within) (k .after) (k .work) (k .world) (k .shaped))
+pub works-facts : (wd : World) (w : ℕ) (s : Step) → begins (sortOf s) (isDone (step s wd .reply)) ≡ false → WorksAt s wd w → Facts s wd
+works-facts wd w s quiet k = working quiet (serves w k)
 
 -- ------------------------------------------------------------------------
 -- one window
@@ -133,7 +141,7 @@ module _ {s : Step} {wd : World} {w : ℕ} {o : Outcome} {x : Effect} {change : 
             ∙ ap change (withPlayer-window wd (o .next) w v′ next);
       }
 
-  pub call-facts : ((o .answer ≡ 0 → ⊥) → begins s (answered (o .answer)) ≡ false) → (o .answer ≡ 0 → Facts s wd) → Facts s wd
+  pub call-facts : ((o .answer ≡ 0 → ⊥) → begins (sortOf s) (eqb (o .answer) 0) ≡ false) → (o .answer ≡ 0 → Facts s wd) → Facts s wd
   call-facts quiet = call-either wd s o change (k .calls) quiet (k .lawful .refuses)
 
 module _ {s : Step} {wd : World} {w : ℕ} {o : Outcome} {x : Effect} {g : Side → Side} (k : CallAt s wd w o x g) where
@@ -168,22 +176,24 @@ module _ {s : Step} {wd : World} {w : ℕ} {o : Outcome} {x : Effect} {g : Side 
 -- Catch, Written, a late Ack, Drop
 
 module _ (wd : World) (shaped : shape (numbersIn wd) (playerIn wd) ≡ true) where
-  catch-call : (w : ℕ) (t : Term) (i : ℕ) → CallAt (catch w t i) wd w (catchRule (numbersIn wd) w t i (playerIn wd)) (catchEffect w t i) (λ p. p)
-  unfolding step
+  catch-call : (w : ℕ) (t : Term) (i : ℕ) →
+      CallAt (catch w t i) wd w (catchRule (numbersIn wd) w t i (playerIn wd)) (catchEffect w t i) (λ p. p)
+  unfolding stepBy
   catch-call w t i = call-alone (catchRule-lawful (numbersIn wd) w t i (playerIn wd)) refl
 
   pub catch-works : (w : ℕ) (t : Term) (i : ℕ) → catchRule (numbersIn wd) w t i (playerIn wd) .answer ≡ 0 → WorksAt (catch w t i) wd w
-  catch-works w t i e = call-works (catch-call w t i) shaped e (λ c. E.caught t i refl c refl)
+  catch-works w t i e =
+      call-works (catch-call w t i) shaped e (λ c. E.caught (record { term = t; index = i; is = refl; tells = c; side = refl }))
 
   pub facts-catch : (w : ℕ) (t : Term) (i : ℕ) → Facts (catch w t i) wd
   facts-catch w t i = call-facts (catch-call w t i .call) (λ n. refl) (λ e. works-facts wd w (catch w t i) refl (catch-works w t i e))
 
   written-call : (w : ℕ) (t : Term) → CallAt (written w t) wd w (writtenRule (numbersIn wd) w t (playerIn wd)) (writtenEffect t) (λ p. p)
-  unfolding step
+  unfolding stepBy
   written-call w t = call-alone (writtenRule-lawful (numbersIn wd) w t (playerIn wd)) refl
 
   pub written-works : (w : ℕ) (t : Term) → writtenRule (numbersIn wd) w t (playerIn wd) .answer ≡ 0 → WorksAt (written w t) wd w
-  written-works w t e = call-works (written-call w t) shaped e (λ c. E.written t refl c refl)
+  written-works w t e = call-works (written-call w t) shaped e (λ c. E.written (record { term = t; is = refl; tells = c; side = refl }))
 
   pub facts-written : (w : ℕ) (t : Term) → Facts (written w t) wd
   facts-written w t = call-facts (written-call w t .call) (λ n. refl) (λ e. works-facts wd w (written w t) refl (written-works w t e))
@@ -200,11 +210,11 @@ module _ (wd : World) (shaped : shape (numbersIn wd) (playerIn wd) ≡ true) whe
     turned-called o e = rw e (ap (W.stays (answered (turnedAway w (playerIn wd)))) (withPlayer-same wd (playerIn wd) refl))
 
     pub catch-turned : (i : ℕ) → step (catch w t i) wd ≡ away
-    unfolding step
+    unfolding stepBy
     catch-turned i = turned-called _ (catchRule-turned (numbersIn wd) w t (playerIn wd) shaped other-in i)
 
     pub written-turned : step (written w t) wd ≡ away
-    unfolding step
+    unfolding stepBy
     written-turned = turned-called _ (writtenRule-turned (numbersIn wd) w t (playerIn wd) shaped other-in)
 
     ack-turned : (i : ℕ) → called (ackRule (numbersIn wd) w t i (playerIn wd)) wd ≡ away
@@ -218,11 +228,11 @@ module _ (wd : World) (shaped : shape (numbersIn wd) (playerIn wd) ≡ true) whe
 
   pub late-turned : (w : ℕ) (t : Term) (i : ℕ) → isLate w t wd ≡ true →
       step (late-ack w t i) wd ≡ W.stays (answered (turnedAway w (playerIn wd))) wd
-  unfolding step
+  unfolding stepBy
   late-turned w t i late = rw late (ack-turned w t (late-other w t late) i)
 
   pub facts-late : (w : ℕ) (t : Term) (i : ℕ) → Facts (late-ack w t i) wd
-  unfolding step
+  unfolding stepBy
   facts-late w t i =
       ⊎-elim
       (λ (late : isLate w t wd ≡ true).
@@ -231,11 +241,13 @@ module _ (wd : World) (shaped : shape (numbersIn wd) (playerIn wd) ≡ true) whe
       (true-or-false (isLate w t wd))
 
   drop-call : (w : ℕ) → CallAt (drop w) wd w (dropRule (numbersIn wd) w (playerIn wd)) dropEffect (λ p. p)
-  unfolding step
+  unfolding stepBy
   drop-call w = call-alone (dropRule-lawful (numbersIn wd) w (playerIn wd)) refl
 
   pub facts-drop : (w : ℕ) → Facts (drop w) wd
-  unfolding step
+  unfolding stepBy
   facts-drop w =
       call-facts (drop-call w .call) (ne-eqb _ 0)
-      (λ e. let d = call-done (drop-call w) shaped e in dropping w refl (eq-eqb _ 0 e) (d .within) (d .world) (d .shaped))
+      (λ e.
+      let d = call-done (drop-call w) shaped e in
+      dropping w (record { is = refl; done = eq-eqb _ 0 e; within = d .within; world = d .world; shaped = d .shaped }))

@@ -9,14 +9,14 @@ use lib.ListN.{length}
 use Rattle.lists.specs.Cases.{le-or-lt}
 use Rattle.rules.specs.View.{WindowView}
 use Rattle.rules.specs.Shape.{shape}
-use Rattle.rules.specs.Window.{batchOf, joined}
+use Rattle.rules.specs.Window.{batchOf}
 use Rattle.rules.specs.Rules.{ackRule, joinRule, sendRule}
 use Rattle.rules.specs.Offers.{sendEffect, sendRule-lawful, ackEffect, ackRule-lawful, joinEffect, joinRule-lawful}
-use Rattle.delivery.specs.World.{Sent, Ack, Side, World, sideAt, numbersIn, playerIn, withView, withLines, withSide, raised, onLine, takeFront, send, ack, join, answered, empty, launch, takeAtLine, ackAtLine, cleared, rejoined, step}
+use Rattle.delivery.specs.World.{Sent, Ack, Side, World, sideAt, numbersIn, playerIn, withView, withLines, withSide, raised, onLine, takeFront, send, ack, join, answered, empty, launch, takeAtLine, ackAtLine, cleared, rejoined, step, stepBy}
 use Rattle.delivery.specs.World as W
 use Rattle.delivery.specs.Invariant.{lastOf}
 use Rattle.delivery.specs.Worlds.{window-in, withSide-here, withSide-twice, withWindow-same}
-use Rattle.delivery.specs.Effects.{WorksAt, Facts, joining}
+use Rattle.delivery.specs.Effects.{WorksAt, joinedView, Facts, joining}
 use Rattle.delivery.specs.Effects as E
 use Rattle.delivery.specs.Stepped.{idle-facts, CallOf, CallAt, call-turn, call-works, call-facts, shape-after, works-facts}
 
@@ -27,49 +27,57 @@ module _ (wd : World) (shaped : shape (numbersIn wd) (playerIn wd) ≡ true) whe
   join-call : (w : ℕ) →
       CallOf (join w) wd w (joinRule (numbersIn wd) w (lastOf (sideAt w wd)) (playerIn wd))
       (joinEffect (wd .current) (lastOf (sideAt w wd))) (rejoined w)
-  unfolding step
+  unfolding stepBy
   join-call w = record { lawful = joinRule-lawful (numbersIn wd) w (lastOf (sideAt w wd)) (playerIn wd); calls = refl }
 
   pub facts-join : (w : ℕ) → Facts (join w) wd
-  unfolding step
+  unfolding stepBy
   facts-join w =
       call-facts (join-call w) (ne-eqb _ 0)
       (λ e.
       let d = call-turn (join-call w) e in
-      let v : WindowView = joined (wd .current) (lastOf (sideAt w wd)) (sideAt w wd .view) in
+      let v : WindowView = joinedView (wd .current) (sideAt w wd) in
       let p : Side = withView v (sideAt w wd) in
       let is : step (join w) wd .world ≡ raised (v .term) (withSide w (cleared p) wd)
       = d .world
       ∙ ap (λ q. raised (q .view .term) (withSide w (cleared q) (withSide w p wd))) (withSide-here w p wd (d .within))
       ∙ ap (raised (v .term)) (withSide-twice w p (cleared p) wd) in
-      joining w refl (eq-eqb _ 0 e) (d .within) (d .turn .away) is
-      (subst⁻¹ (λ x. shape (numbersIn x) (playerIn x) ≡ true) is
-      (shape-after wd w _ v (cleared p) (withSide w (cleared p) wd) (d .next) (join-call w .lawful .shaped shaped) refl refl)))
+      joining w
+      (record {
+        is = refl;
+        done = eq-eqb _ 0 e;
+        within = d .within;
+        away = d .turn .away;
+        world = is;
+        shaped =
+            subst⁻¹ (λ x. shape (numbersIn x) (playerIn x) ≡ true) is
+            (shape-after wd w _ v (cleared p) (withSide w (cleared p) wd) (d .next) (join-call w .lawful .shaped shaped) refl refl);
+      }))
 
   -- ------------------------------------------------------------------------
   -- Send
 
-  -- the batch put on the line
+  -- a batch put on the line
+  put : ℕ → List ℕ → Side → Side
+  put w indices p = withLines (p .line ++ onLine (wd .journal) w (sideAt w wd .view .term) indices) (p .back) p
+
   batchPut : ℕ → Side → Side
-  batchPut w p = withLines (p .line ++ onLine (wd .journal) w (sideAt w wd .view .term) (batchOf (wd .limit) (sideAt w wd .view) .indices)) (p .back) p
+  batchPut w p = put w (batchOf (wd .limit) (sideAt w wd .view) .indices) p
 
   send-call : (w : ℕ) (out : List ℕ) →
       CallAt (send w out) wd w (sendRule (numbersIn wd) w (length out) (playerIn wd)) (sendEffect (wd .limit) (length out)) (batchPut w)
-  unfolding step batchPut
+  unfolding stepBy put batchPut
   send-call w out =
       record {
         change = launch w wd;
         call = record { lawful = sendRule-lawful (numbersIn wd) w (length out) (playerIn wd); calls = refl };
-        here = λ x.
-            let p : Side = sideAt w x in
-            ap (λ v. withSide w (withLines (p .line ++ onLine (wd .journal) w (sideAt w wd .view .term) (batchOf (wd .limit) v .indices)) (p .back) p) x)
-            (window-in w wd);
+        here = λ x. ap (λ v. withSide w (put w (batchOf (wd .limit) v .indices) (sideAt w x)) x) (window-in w wd);
         views = λ p. refl;
       }
 
   pub send-works : (w : ℕ) (out : List ℕ) → sendRule (numbersIn wd) w (length out) (playerIn wd) .answer ≡ 0 → WorksAt (send w out) wd w
-  unfolding batchPut
-  send-works w out e = call-works (send-call w out) shaped e (λ c. E.sent out refl c refl)
+  unfolding put batchPut
+  send-works w out e = call-works (send-call w out) shaped e (λ c. E.sent (record { out = out; is = refl; tells = c; side = refl }))
 
   pub facts-send : (w : ℕ) (out : List ℕ) → Facts (send w out) wd
   facts-send w out = call-facts (send-call w out .call) (λ n. refl) (λ e. works-facts wd w (send w out) refl (send-works w out e))
@@ -78,7 +86,7 @@ module _ (wd : World) (shaped : shape (numbersIn wd) (playerIn wd) ≡ true) whe
   -- Ack
 
   ack-line : (w : ℕ) (b : List Ack) → w < length (wd .sides) → sideAt w wd .back ≡ b → step (ack w) wd ≡ ackAtLine w b wd
-  unfolding step
+  unfolding stepBy
   ack-line w b h front = simp (lt-ltb w (length (wd .sides)) h) (ap (λ b. ackAtLine w b wd) front)
 
   ack-call : (w : ℕ) (a : Ack) (rest : List Ack) → w < length (wd .sides) → sideAt w wd .back ≡ a ∷ rest →
@@ -97,7 +105,9 @@ module _ (wd : World) (shaped : shape (numbersIn wd) (playerIn wd) ≡ true) whe
 
   pub ack-works : (w : ℕ) (a : Ack) (rest : List Ack) → w < length (wd .sides) → sideAt w wd .back ≡ a ∷ rest →
       ackRule (numbersIn wd) w (a .term) (a .index) (playerIn wd) .answer ≡ 0 → WorksAt (ack w) wd w
-  ack-works w a rest h front e = call-works (ack-call w a rest h front) shaped e (λ c. E.acked refl a rest front c refl)
+  ack-works w a rest h front e =
+      call-works (ack-call w a rest h front) shaped e
+      (λ c. E.acked (record { is = refl; offer = a; rest = rest; front = front; tells = c; side = refl }))
 
   ack-front : (w : ℕ) (b : List Ack) → w < length (wd .sides) → sideAt w wd .back ≡ b → Facts (ack w) wd
   ack-front w [] h front = idle-facts wd (ack w) empty refl refl (ack-line w [] h front)
@@ -105,7 +115,7 @@ module _ (wd : World) (shaped : shape (numbersIn wd) (playerIn wd) ≡ true) whe
       call-facts (ack-call w a rest h front .call) (λ n. refl) (λ e. works-facts wd w (ack w) refl (ack-works w a rest h front e))
 
   pub facts-ack : (w : ℕ) → Facts (ack w) wd
-  unfolding step
+  unfolding stepBy
   facts-ack w =
       ⊎-elim
       (λ (h : length (wd .sides) ≤ w). idle-facts wd (ack w) (answered 2) refl refl (simp (le-ltb w (length (wd .sides)) h)))
@@ -117,7 +127,7 @@ module _ (wd : World) (shaped : shape (numbersIn wd) (playerIn wd) ≡ true) whe
 
   take-line : (w : ℕ) (acks : Bool) (l : List Sent) → w < length (wd .sides) → sideAt w wd .line ≡ l →
       step (W.take w acks) wd ≡ takeAtLine w acks l wd
-  unfolding step
+  unfolding stepBy
   take-line w acks l h front = simp (lt-ltb w (length (wd .sides)) h) (ap (λ l. takeAtLine w acks l wd) front)
 
   pub take-works : (w : ℕ) (acks : Bool) (s : Sent) (rest : List Sent) → w < length (wd .sides) → sideAt w wd .line ≡ s ∷ rest →
@@ -129,7 +139,17 @@ module _ (wd : World) (shaped : shape (numbersIn wd) (playerIn wd) ≡ true) whe
       record {
         within = h;
         after = takeFront acks s rest (sideAt w wd);
-        work = E.took acks refl s rest front (ap (λ r. r .reply) (take-line w acks (s ∷ rest) h front)) refl;
+        work =
+            E.took
+            (record {
+              acks = acks;
+              is = refl;
+              entry = s;
+              rest = rest;
+              front = front;
+              replied = ap (λ r. r .reply) (take-line w acks (s ∷ rest) h front);
+              side = refl;
+            });
         world = done;
         shaped = shape-after wd w (playerIn wd) (sideAt w wd .view) _ _ (sym (withWindow-same w wd)) shaped done refl;
       }
@@ -139,7 +159,7 @@ module _ (wd : World) (shaped : shape (numbersIn wd) (playerIn wd) ≡ true) whe
   take-front w acks (s ∷ rest) h front = works-facts wd w (W.take w acks) refl (take-works w acks s rest h front)
 
   pub facts-take : (w : ℕ) (acks : Bool) → Facts (W.take w acks) wd
-  unfolding step
+  unfolding stepBy
   facts-take w acks =
       ⊎-elim
       (λ (h : length (wd .sides) ≤ w). idle-facts wd (W.take w acks) (answered 2) refl refl (simp (le-ltb w (length (wd .sides)) h)))

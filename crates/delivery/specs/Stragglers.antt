@@ -3,6 +3,7 @@ use Prim.Native.Nat.{ℕ, _<_}
 use mathlib.Core.Path.{_≡_}
 use mathlib.Core.List.{List}
 use Rattle.journal.specs.declared.Entry.{Entry}
+use Rattle.rules.specs.declared.Settings.{Settings}
 use Rattle.rules.specs.declared.Term.{Term}
 use Rattle.rules.specs.View.{PlayerView}
 use Rattle.rules.specs.Refusals.{turnedAway}
@@ -21,10 +22,10 @@ pub record Unmoved (t : Term) (w i : ℕ) (wd : World) : Type 0 where
 -- window and index. The newest Start answered 0 is one such Start, so the term may be any that a window had before the newest.
 abbrev pub Stragglers : Type 0
 Stragglers =
-    (before : PlayerView) (j : List Entry) (count limit spacing : ℕ) (first : Term) (silent : ℕ) (early between : List Step)
-    (limit′ spacing′ : ℕ) (first′ : Term) (silent′ : ℕ) (later : List Step) →
-    let had : World = run (firstWorld before j count limit spacing first silent) early in
-    let started : Stepped = step (start limit′ spacing′ first′ silent′) (run had between) in
+    (before : PlayerView) (j : List Entry) (count : ℕ) (settings : Settings) (early between : List Step) (again : Settings)
+    (later : List Step) →
+    let had : World = run (firstWorld before j count settings) early in
+    let started : Stepped = step (start again) (run had between) in
     let now : World = run (started .world) later in
-    firstStart before j count limit spacing first silent .answer ≡ 0 → started .reply ≡ answered 0 →
+    firstStart before j count settings .answer ≡ 0 → started .reply ≡ answered 0 →
     (u : ℕ) → u < count → (w i : ℕ) → Unmoved (sideAt u had .view .term) w i now

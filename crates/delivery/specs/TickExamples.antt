@@ -9,6 +9,7 @@ use Rattle.journal.specs.Entry.{entry4, placedAt}
 use Rattle.journal.specs.Own.{own, ownOf}
 use Rattle.lists.specs.Keep.{keep}
 use Rattle.record.specs.Record.{emptyRace, newRecord, takeAll}
+use Rattle.rules.specs.declared.Settings.{Settings}
 use Rattle.rules.specs.View.{WindowView, normal}
 use Rattle.rules.specs.Rules.{tick}
 use Rattle.delivery.specs.World.{Side, World, sideAt, Step, main, send, written, take, ack, drop, join, start, replies, answered, empty, run}
@@ -21,9 +22,13 @@ leading : Unit {0}
 unfolding keep takeAll
 leading = tt
 
--- a beginning: two windows of which none is silent, batch limit 2, first term 1, and a spacing
+-- batch limit 2, a spacing and a first term, and no window silent
+abbrev pub every : (spacing first : ℕ) → Settings
+every spacing first = record { limit = 2; spacing = spacing; first = term first; silent = 0 }
+
+-- a beginning: two windows, first term 1, and a spacing
 abbrev pub openedEvery : ℕ → List Entry → World
-openedEvery spacing j = firstWorld nobody j 2 2 spacing (term 1) 0
+openedEvery spacing j = firstWorld nobody j 2 (every spacing 1)
 
 -- a Normal window with a term, for which nothing is queued; all that was sent, up to an index, is acknowledged
 abbrev pub idleAt : (term index : ℕ) → WindowView
@@ -69,7 +74,7 @@ abbrev pub served : ℕ → World
 served spacing = run (openedEvery spacing busy) busySteps
 
 abbrev pub anew : ℕ → World
-anew spacing = run (served spacing) (start 2 spacing (term 2) 0 ∷ [])
+anew spacing = run (served spacing) (start (every spacing 2) ∷ [])
 
 -- window 0 then, with spacing 2: it has taken two ticks
 abbrev pub quietSide : Side
@@ -82,8 +87,8 @@ quietSide = record {
 }
 
 -- With spacing 2 window 0 gets a tick at 2 and, that acknowledged, one at 4. None of this is its own, but its record goes up with them, and
--- the Start begins at 4; after it window 1 misses and repeats nothing. With a spacing that gives no tick the same steps leave window 0 at 0,
--- and the Start begins there.
+-- the Start begins at 4; after it window 1 misses and repeats nothing. With a spacing that gives no tick the same steps leave window 0 at
+-- 0, and the Start begins there.
 pub record QuietWindow : Type 0 where
   pub line : lineEntries (sideAt 0 (run (openedEvery 2 busy) sentSteps) .line) ≡ tick 2 ∷ []
   pub answers : replies (openedEvery 2 busy) busySteps ≡

@@ -14,7 +14,7 @@ use Rattle.lists.specs.All.{all}
 use Rattle.lists.specs.Elem.{lastOr}
 use Rattle.lists.specs.Rising.{Rising, rising-none, rising-weaken, rising-append}
 use Rattle.lists.specs.Keep.{keep, keep-append}
-use Rattle.rules.specs.declared.Term.{Term}
+use Rattle.rules.specs.declared.Settings.{Settings}
 use Rattle.rules.specs.View.{Condition, normal, fetching, completed, suspended, WindowView, PlayerView}
 use Rattle.rules.specs.Shape.{catchUpFits}
 use Rattle.rules.specs.Window.{isSuspended, readAt, getsTick}
@@ -27,8 +27,7 @@ use Rattle.delivery.specs.Lines.{line-here}
 use Rattle.delivery.specs.Queued.{holds-append, first-append}
 use Rattle.delivery.specs.KeepMain.{keep-read, tick-other}
 use Rattle.delivery.specs.Worlds.{window-in, windows-in}
-use Rattle.delivery.specs.Reach.{spaced-in, reached-run}
-use Rattle.delivery.specs.Joined.{run-count}
+use Rattle.delivery.specs.Reach.{spaced-in, reached-run, run-count}
 use Rattle.delivery.specs.Demand3.{opened-reached, opened-count}
 
 -- ------------------------------------------------------------------------
@@ -164,11 +163,10 @@ tick-laws-in w wd r h =
     }
 
 -- A result to be read: these hold at every window, for whatever demand 3 speaks of
-pub tick-laws : (before : PlayerView) (j : List Entry) (count limit spacing : ℕ) (first : Term) (silent : ℕ) (steps : List Step) →
-    firstStart before j count limit spacing first silent .answer ≡ 0 →
-    (w : ℕ) → w < count → TickLaws w (run (firstWorld before j count limit spacing first silent) steps)
-tick-laws before j count limit spacing first silent steps done w h =
-    let wd : World = firstWorld before j count limit spacing first silent in
-    let reached : Reached wd = opened-reached before j count limit spacing first silent done in
+pub tick-laws : (before : PlayerView) (j : List Entry) (count : ℕ) (settings : Settings) (steps : List Step) →
+    firstStart before j count settings .answer ≡ 0 → (w : ℕ) → w < count → TickLaws w (run (firstWorld before j count settings) steps)
+tick-laws before j count settings steps done w h =
+    let wd : World = firstWorld before j count settings in
+    let reached : Reached wd = opened-reached before j count settings done in
     tick-laws-in w (run wd steps) (reached-run wd steps reached)
-    (omega (arith, run-count wd steps reached, opened-count before j count limit spacing first silent done))
+    (omega (arith, run-count wd steps reached, opened-count before j count settings done))

@@ -1,5 +1,5 @@
 -- Document 01, "Whole runs", with document 02's acks (W1), silent windows (W3), ticks (W5) and first term (W7): a world of journal,
--- player, windows and lines, and what each step makes of it.
+-- player, windows and lines, and what each step makes of it, whichever player it is.
 use Prim.Native.Nat.{ℕ, max}
 use mathlib.Core.List.{List, [], _∷_, _++_, map}
 use mathlib.Core.Bool.{Bool, true, false, cond, _||_}
@@ -10,9 +10,11 @@ use Rattle.journal.specs.Entry.{Placed, numbersOf, fiveOf}
 use Rattle.record.specs.declared.Record.{Record}
 use Rattle.record.specs.Record.{newRecord, takeNumbers}
 use Rattle.record.specs.Record as Take
+use Rattle.rules.specs.declared.Settings.{Settings}
 use Rattle.rules.specs.declared.Term.{Term}
 use Rattle.rules.specs.View.{WindowView, noWindow, PlayerView}
-use Rattle.rules.specs.Rules.{Outcome, mainRule, catchRule, writtenRule, ackRule, dropRule, joinRule, sendRule, sentFor, batchAt, said, startRule}
+use Rattle.rules.specs.Rules.{Outcome, sentFor}
+use Rattle.delivery.specs.Machine.{Machine, large}
 
 -- an entry or a tick on its way to a window, with the term of its batch and whether it is the batch's last
 pub record Sent : Type 0 where
@@ -139,8 +141,8 @@ takeFront acks s rest p =
 -- ------------------------------------------------------------------------
 -- Steps
 
--- A Take says whether it acks an entry that is not the last of its batch. A Start has a batch limit, a spacing, a first term and a set of
--- silent windows.
+-- A Take says whether it acks an entry that is not the last of its batch. A Start has the batch limit, the spacing, the first term and the
+-- set of silent windows that the host chooses.
 pub data Step : Type 0 where
   main : ℕ → Step
   catch : ℕ → Term → ℕ → Step
@@ -151,7 +153,7 @@ pub data Step : Type 0 where
   late-ack : ℕ → Term → ℕ → Step
   drop : ℕ → Step
   join : ℕ → Step
-  start : (limit spacing : ℕ) (first : Term) (silent : ℕ) → Step
+  start : Settings → Step
   append : Entry → Step
 
 -- the papers' number; or a Take or an Ack from an empty line; or a step that is not made: a late ack of a term that is not older, a Start
@@ -179,26 +181,12 @@ calledThen o f wd = record {
   world = cond (eqb (o .answer) 0) (f (withPlayer (o .next) wd)) (withPlayer (o .next) wd);
 }
 
--- Send answered 0 puts the batch that it wrote on its window's line
-abbrev pub launch : ℕ → World → World → World
-launch w before wd =
-    let p : Side = sideAt w wd in
-    let batch : List Sent = onLine (before .journal) w (sideAt w before .view .term) (batchAt w (playerIn before)) in
-    withSide w (withLines (p .line ++ batch) (p .back) p) wd
-
 abbrev pub takeAtLine : ℕ → Bool → List Sent → World → Stepped
 takeAtLine w acks [] wd = stays empty wd
 takeAtLine w acks (s ∷ rest) wd = record {
   reply = answered (takeNumbers (fiveOf (s .placed)) (sideAt w wd .record′) .number);
   world = withSide w (takeFront acks s rest (sideAt w wd)) wd;
 }
-
--- Ack offers the front ack, which stays on the line if refused
-abbrev pub ackAtLine : ℕ → List Ack → World → Stepped
-ackAtLine w [] wd = stays empty wd
-ackAtLine w (a ∷ rest) wd =
-    calledThen (ackRule (numbersIn wd) w (a .term) (a .index) (playerIn wd))
-    (λ wd′. withSide w (withLines (sideAt w wd′ .line) rest (sideAt w wd′)) wd′) wd
 
 -- both ways of a line emptied
 abbrev pub cleared : Side → Side
@@ -224,41 +212,71 @@ restarted first wd = raised first (clearedAll wd)
 abbrev pub isNew : Term → World → Bool
 isNew first wd = ltb (wd .greatest) (first .0)
 
--- the reports for Start, which gets those of the windows that are not silent: the last index of each window's record
+-- the reports for Start, which looks at those of the windows that are not silent: the last index of each window's record
 abbrev pub reportsIn : World → List ℕ
 reportsIn wd = map (λ p. p .record′ .last .0) (wd .sides)
 
--- windows from W up have no line: a Take or an Ack there is answered 2, as the player's calls are
-unfoldable pub step : Step → World → Stepped
-step (main i) wd = called (mainRule (numbersIn wd) i (playerIn wd)) wd
-step (catch w t i) wd = called (catchRule (numbersIn wd) w t i (playerIn wd)) wd
-step (written w t) wd = called (writtenRule (numbersIn wd) w t (playerIn wd)) wd
-step (send w out) wd = calledThen (sendRule (numbersIn wd) w (length out) (playerIn wd)) (launch w wd) wd
-step (take w acks) wd = cond (ltb w (length (wd .sides))) (takeAtLine w acks (sideAt w wd .line) wd) (stays (answered 2) wd)
-step (ack w) wd = cond (ltb w (length (wd .sides))) (ackAtLine w (sideAt w wd .back) wd) (stays (answered 2) wd)
-step (late-ack w t i) wd =
-    cond (isLate w t wd) (called (ackRule (numbersIn wd) w t i (playerIn wd)) wd) (stays unmade wd)
-step (drop w) wd = called (dropRule (numbersIn wd) w (playerIn wd)) wd
-step (join w) wd =
-    calledThen (joinRule (numbersIn wd) w (sideAt w wd .record′ .last .0) (playerIn wd)) (rejoined w) wd
-step (start b e first silent) wd =
-    cond (isNew first wd)
-    (calledThen (startRule (numbersIn wd) (length (wd .sides)) b e first (said silent (reportsIn wd)) (playerIn wd)) (restarted first) wd)
-    (stays unmade wd)
-step (append e) wd =
-    cond (ltb (length (wd .journal)) 65535)
-    (stays (answered 0) (withJournal (wd .journal ++ (e ∷ [])) wd))
-    (stays unmade wd)
+-- the steps of a world with any player
+module _ (m : Machine) where
+  -- Send answered 0 puts the batch that it wrote on its window's line
+  abbrev pub launchBy : ℕ → World → World → World
+  launchBy w before wd =
+      let p : Side = sideAt w wd in
+      let batch : List Sent = onLine (before .journal) w (sideAt w before .view .term) (m .batch (numbersIn before) w (playerIn before)) in
+      withSide w (withLines (p .line ++ batch) (p .back) p) wd
 
--- the world after a list of steps
-unfoldable pub run : World → List Step → World
-run wd [] = wd
-run wd (s ∷ ss) = run (step s wd .world) ss
+  -- Ack offers the front ack, which stays on the line if refused
+  abbrev pub ackAtLineBy : ℕ → List Ack → World → Stepped
+  ackAtLineBy w [] wd = stays empty wd
+  ackAtLineBy w (a ∷ rest) wd =
+      calledThen (m .ack (numbersIn wd) w (a .term) (a .index) (playerIn wd))
+      (λ wd′. withSide w (withLines (sideAt w wd′ .line) rest (sideAt w wd′)) wd′) wd
 
--- the replies of a list of steps
-unfoldable pub replies : World → List Step → List Reply
-replies wd [] = []
-replies wd (s ∷ ss) = step s wd .reply ∷ replies (step s wd .world) ss
+  -- windows from W up have no line: a Take or an Ack there is answered 2, as the player's calls are
+  unfoldable pub stepBy : Step → World → Stepped
+  stepBy (main i) wd = called (m .main (numbersIn wd) i (playerIn wd)) wd
+  stepBy (catch w t i) wd = called (m .catch (numbersIn wd) w t i (playerIn wd)) wd
+  stepBy (written w t) wd = called (m .written (numbersIn wd) w t (playerIn wd)) wd
+  stepBy (send w out) wd = calledThen (m .send (numbersIn wd) w (length out) (playerIn wd)) (launchBy w wd) wd
+  stepBy (take w acks) wd = cond (ltb w (length (wd .sides))) (takeAtLine w acks (sideAt w wd .line) wd) (stays (answered 2) wd)
+  stepBy (ack w) wd = cond (ltb w (length (wd .sides))) (ackAtLineBy w (sideAt w wd .back) wd) (stays (answered 2) wd)
+  stepBy (late-ack w t i) wd = cond (isLate w t wd) (called (m .ack (numbersIn wd) w t i (playerIn wd)) wd) (stays unmade wd)
+  stepBy (drop w) wd = called (m .drop (numbersIn wd) w (playerIn wd)) wd
+  stepBy (join w) wd = calledThen (m .join (numbersIn wd) w (sideAt w wd .record′ .last .0) (playerIn wd)) (rejoined w) wd
+  stepBy (start settings) wd =
+      cond (isNew (settings .first) wd)
+      (calledThen (m .start (numbersIn wd) (length (wd .sides)) settings (reportsIn wd) (playerIn wd)) (restarted (settings .first)) wd)
+      (stays unmade wd)
+  stepBy (append e) wd =
+      cond (ltb (length (wd .journal)) 65535)
+      (stays (answered 0) (withJournal (wd .journal ++ (e ∷ [])) wd))
+      (stays unmade wd)
+
+  -- the world after a list of steps
+  unfoldable pub runBy : World → List Step → World
+  runBy wd [] = wd
+  runBy wd (s ∷ ss) = runBy (stepBy s wd .world) ss
+
+  -- the replies of a list of steps
+  unfoldable pub repliesBy : World → List Step → List Reply
+  repliesBy wd [] = []
+  repliesBy wd (s ∷ ss) = stepBy s wd .reply ∷ repliesBy (stepBy s wd .world) ss
+
+-- with the large player
+abbrev pub launch : ℕ → World → World → World
+launch w before wd = launchBy large w before wd
+
+abbrev pub ackAtLine : ℕ → List Ack → World → Stepped
+ackAtLine w b wd = ackAtLineBy large w b wd
+
+abbrev pub step : Step → World → Stepped
+step s wd = stepBy large s wd
+
+abbrev pub run : World → List Step → World
+run wd ss = runBy large wd ss
+
+abbrev pub replies : World → List Step → List Reply
+replies wd ss = repliesBy large wd ss
 
 -- ------------------------------------------------------------------------
 -- The beginning: new windows, empty lines, any journal and a Start
@@ -267,7 +285,7 @@ abbrev pub newSide : WindowView → Side
 newSide v = record { view = v; record′ = newRecord; line = []; back = []; taken = [] }
 
 -- the world after a first Start, before which no term was used
-unfoldable pub opened : List Entry → Term → Outcome → World
+unfoldable pub opened : List Entry → (first : Term) → Outcome → World
 opened j first o = record {
   journal = j;
   limit = o .next .limit;

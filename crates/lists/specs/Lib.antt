@@ -1,6 +1,6 @@
 -- What several crates say of lists and tests: ways to go by cases, a test of every item, membership and the last item, rising lists, the
 -- numbers above a given one, the items by their place, a list written over another, the first cells of a row, the refusals of a call in
--- order, and an answer with its values.
+-- order, an answer with its values, and tests that decide equality.
 pub mod Cases
 pub mod All
 pub mod Elem
@@ -12,3 +12,5 @@ pub mod Cells
 pub mod Refusal
 pub mod Answer
 pub mod Keep
+pub mod Same
+pub mod SameLaws

@@ -4,16 +4,18 @@ use crate::tally::Tally;
 use journal::Index;
 use player::Player;
 use record::Record;
+use rules::Settings;
 use rules::Term;
 use window::Answer;
 use window::Condition;
-use window::Window;
 ghost use Prim.Native.Nat.{_≤_, _<_};
 
-// More turns than serving a window takes. A proved loop has to end, so it counts its turns up to a number that no run comes to.
+// More turns than serving a window takes. A proved loop has to end, so it counts its turns up to a number that no run
+// comes to.
 const TURNS: u64 = u64::MAX;
 
-// The spacing of ticks: a window that has no entry of its own for so long gets a tick, so that a start does not begin far back.
+// The spacing of ticks: a window that has no entry of its own for so long gets a tick, so that a start does not begin
+// far back.
 const SPACING: u32 = 1000;
 
 // The first term. The player is started once, so no term was used before.
@@ -31,17 +33,16 @@ impl Host {
     pub(crate) fn start(journal: &[u32], windows: u32, limit: u32) -> Host
         requires { ⌜ windows ≤ 16 ⌝ }
     {
-        let fresh = Player {
-            count: windows,
+        let settings = Settings {
             limit,
             spacing: SPACING,
-            current: Index(0),
-            windows: [Window::started(FIRST, Index(0)); 16],
+            first: FIRST,
+            silent: 0,
         };
         let reports = [0; 16];
         let count = windows as usize;
         let told = &reports[0..count];
-        let started = operations::start_on(fresh, journal, windows, limit, SPACING, FIRST, told, 0);
+        let started = operations::start_on(Player::blank(), journal, windows, settings, told);
         let player = started.player;
         let answer = started.answer;
         Host {
@@ -70,7 +71,8 @@ impl Host {
         self
     }
 
-    // Serves window w: sends it batches and fetches what it missed, until nothing is ready and nothing is left to fetch.
+    // Serves window w: sends it batches and fetches what it missed, until nothing is ready and nothing is left to
+    // fetch.
     fn serve(mut self, journal: &[u32], w: u32) -> Host
         requires { ⌜ w < 16 ⌝ }
     {
@@ -128,8 +130,8 @@ impl Host {
         host
     }
 
-    // Plays one round after another until the journal is read or a call is refused. Each reads an entry at least, so there are no more than
-    // entries.
+    // Plays one round after another until the journal is read or a call is refused. Each reads an entry at least, so
+    // there are no more than entries.
     pub(crate) fn play(self, journal: &[u32], entries: u32, limit: u32) -> Host {
         let mut host = self;
         for _ in 0..entries {

@@ -61,7 +61,8 @@ pub(crate) fn deliver(
     }
 }
 
-// The line drops when the window has taken the first entry of the batch, and the window joins again with its last index.
+// The line drops when the window has taken the first entry of the batch, and the window joins again with its last
+// index.
 pub(crate) fn lose(
     player: Player,
     journal: &[u32],

@@ -1,7 +1,7 @@
-// A meeting played whole with the public calls, as a host written in Rattle makes them. `meeting W ENTRIES LIMIT` makes a journal of so
-// many entries and plays it to W windows in batches of at most LIMIT; the line of every fifth batch drops. Then it prints what each window
-// has taken, and the number of calls. No contract can speak of what is printed, so the functions here promise only that they are safe and
-// end.
+// A meeting played whole with the public calls, as a host written in Rattle makes them. `meeting W ENTRIES LIMIT` makes
+// a journal of so many entries and plays it to W windows in batches of at most LIMIT; the line of every fifth batch
+// drops. Then it prints what each window has taken, and the number of calls. No contract can speak of what is printed,
+// so the functions here promise only that they are safe and end.
 mod arguments;
 mod entries;
 mod host;

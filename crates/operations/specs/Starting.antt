@@ -9,11 +9,12 @@ use lib.ListN.{length, take, drop, getD, set, replicate, drop-of-length-le, leng
 use lib.Seq.{take-suc, length-take-le, drop-cons, set-at}
 use Rattle.lists.specs.All.{all}
 use Rattle.window.specs.declared.Window.{Window}
-use Rattle.window.specs.Promise.{freshWindow, windowBy}
-use Rattle.window.specs.Laws.{viewOf-by}
+use Rattle.window.specs.Promise.{startedWindow, startedWindowBy}
+use Rattle.window.specs.Laws.{viewOf-started}
 use Rattle.player.specs.View.{firstWindows, playerOf}
 use Rattle.player.specs.Promise.{freshWindows, freshPlayer}
 use Rattle.rules.specs.declared.Term.{Term}
+use Rattle.rules.specs.declared.Settings.{Settings}
 use Rattle.rules.specs.Window.{Report, told, silence, startedBy}
 use Rattle.rules.specs.Rules.{saidBy, said, isStartReport, spoken, least}
 use Rattle.rules.specs.Offers.{startNext, said-length, said-at}
@@ -92,23 +93,23 @@ lowest-least l (silence ∷ rs) h = lowest-least l rs (λ w. h (suc w))
 -- ------------------------------------------------------------------------
 -- freshWindows
 
-pub freshWindows-none : (first : Term) (l : ℕ) → replicate 16 (freshWindow first 0) ≡ freshWindows first l []
+pub freshWindows-none : (first : Term) (l : ℕ) → replicate 16 (startedWindow first 0) ≡ freshWindows first l []
 unfolding freshWindows
 freshWindows-none first l = refl
 
 -- one more window, from what is said of it
 freshWindows-snoc : (first : Term) (l : ℕ) (rs : List Report) (r : Report) (w : ℕ) → length rs ≡ w → w < 16 →
-    set (freshWindows first l rs) w (windowBy first l r) ≡ freshWindows first l (rs ++ (r ∷ []))
+    set (freshWindows first l rs) w (startedWindowBy first l r) ≡ freshWindows first l (rs ++ (r ∷ []))
 unfolding freshWindows
 freshWindows-snoc first l rs r w e h =
     let left : 16 - length rs ≡ suc (16 - suc (length rs)) = omega arith in
     let after : length (rs ++ (r ∷ [])) ≡ suc (length rs) = omega (arith, length-append rs (r ∷ [])) in
-    let by : Report → Window = windowBy first l in
-    rw (left, set-at (map by rs) (freshWindow first 0) _ (by r) w (length-map rs by ∙ e), map-append, after)
+    let by : Report → Window = startedWindowBy first l in
+    rw (left, set-at (map by rs) (startedWindow first 0) _ (by r) w (length-map rs by ∙ e), map-append, after)
     (sym (append-assoc (map by rs) (by r ∷ []) _))
 
 pub freshWindows-more : (first : Term) (l silent : ℕ) (reports : List ℕ) (w : ℕ) → w < length reports → w < 16 →
-    set (freshWindows first l (take w (said silent reports))) w (windowBy first l (saidBy silent w (getD reports w 0)))
+    set (freshWindows first l (take w (said silent reports))) w (startedWindowBy first l (saidBy silent w (getD reports w 0)))
     ≡ freshWindows first l (take (w + 1) (said silent reports))
 freshWindows-more first l silent reports w h few =
     let within = said-within silent reports w h in
@@ -116,15 +117,17 @@ freshWindows-more first l silent reports w h few =
     (freshWindows-snoc first l (take w (said silent reports)) _ w (length-take-le w (said silent reports) (omega arith)) few)
 
 firstWindows-fresh : (first : Term) (l : ℕ) (rs : List Report) (ws : List Window) →
-    firstWindows (length rs) (map (windowBy first l) rs ++ ws) ≡ map (startedBy first l) rs
+    firstWindows (length rs) (map (startedWindowBy first l) rs ++ ws) ≡ map (startedBy first l) rs
 unfolding firstWindows
 firstWindows-fresh first l [] ws = refl
-firstWindows-fresh first l (r ∷ rs) ws = ap₂ _∷_ (viewOf-by first l r) (firstWindows-fresh first l rs ws)
+firstWindows-fresh first l (r ∷ rs) ws = ap₂ _∷_ (viewOf-started first l r) (firstWindows-fresh first l rs ws)
 
 -- what a fresh player shows
-pub freshPlayer-shown : (l count limit spacing : ℕ) (first : Term) (rs : List Report) → length rs ≡ count →
-    playerOf (freshPlayer l count limit spacing first rs) ≡ startNext l limit spacing first rs
+pub freshPlayer-shown : (l count : ℕ) (settings : Settings) (reports : List ℕ) → length reports ≡ count →
+    playerOf (freshPlayer l count settings reports) ≡ startNext l settings reports
 unfolding playerOf freshWindows
-freshPlayer-shown l count limit spacing first rs e =
-    ap (λ vs. record { limit = limit; spacing = spacing; current = least l (spoken rs); windows = vs })
-    (ap (λ n. firstWindows n (freshWindows first l rs)) (sym e) ∙ firstWindows-fresh first l rs _)
+freshPlayer-shown l count settings reports e =
+    let rs : List Report = said (settings .silent) reports in
+    ap (λ vs. record { limit = settings .limit; spacing = settings .spacing; current = least l (spoken rs); windows = vs })
+    (ap (λ n. firstWindows n (freshWindows (settings .first) l rs)) (sym (said-length (settings .silent) reports ∙ e))
+    ∙ firstWindows-fresh (settings .first) l rs _)

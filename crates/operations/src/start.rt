@@ -3,6 +3,7 @@ use journal::Index;
 use player::Played;
 use player::Player;
 use player::count_fits;
+use rules::Settings;
 use rules::Term;
 use window::Answer;
 use window::Window;
@@ -13,7 +14,7 @@ ghost use mathlib.Core.Path.{_≡_};
 ghost use lib.ListN.{length};
 ghost use Rattle.journal.specs.Entry.{countOf};
 ghost use Rattle.lists.specs.All.{all};
-ghost use Rattle.window.specs.Promise.{windowBy};
+ghost use Rattle.window.specs.Promise.{startedWindowBy};
 ghost use Rattle.player.specs.View.{playerOf};
 ghost use Rattle.player.specs.Promise.{freshWindows, Starts};
 ghost use Rattle.rules.specs.Rules.{saidBy, said, isStartReport, firstFits, startFits, startRule};
@@ -26,14 +27,16 @@ fn first_fits(first: Term) -> bool
     1 <= first.0
 }
 
-// Whether the number of windows, the batch limit, the first term and the journal are in shape, and there are exactly so many reports.
-fn start_in_shape(journal: &[u32], count: u32, limit: u32, first: Term, reports: &[u32]) -> bool
-    ensures { λ r. ⌜ r ≡ startFits (now (journal .entry)) count limit first (length (now (reports .entry))) ⌝ }
+// Whether the number of windows, the batch limit, the first term and the journal are in shape, and there are exactly so
+// many reports.
+fn start_in_shape(journal: &[u32], count: u32, settings: Settings, reports: &[u32]) -> bool
+    ensures { λ r. ⌜ r ≡ startFits (now (journal .entry)) count settings (now (reports .entry)) ⌝ }
 {
+    let first = settings.first;
     if !count_fits(count) {
         return false;
     }
-    if !limit_fits(limit) {
+    if !limit_fits(settings.limit) {
         return false;
     }
     if !first_fits(first) {
@@ -98,7 +101,7 @@ fn lowest(l: u32, reports: &[u32], silent: u32) -> Index
 
 // Window w as Start leaves it.
 fn window_of(first: Term, l: Index, w: u32, report: Index, silent: u32) -> Window
-    ensures { λ r. ⌜ r ≡ windowBy first (l .0) (saidBy silent w (report .0)) ⌝ }
+    ensures { λ r. ⌜ r ≡ startedWindowBy first (l .0) (saidBy silent w (report .0)) ⌝ }
 {
     if journal::has(silent, w) {
         return Window::silent(first, l);
@@ -122,31 +125,31 @@ fn windows_of(first: Term, l: Index, reports: &[u32], silent: u32) -> [Window; 1
     windows
 }
 
-// Start: 1, also where the first term is 0 or there are not exactly `count` reports; 18: the spacing is not 1 to 65,535; 13: a report above
-// L, unless the window is silent. Every window begins on the first term, from its report, or as `Window::silent` has it; those from `count`
-// up from a report of 0. `current` is the least report of a window that is not silent, or L where all are. What the player held before is
-// not read: that the first term is above every term used so far is for the host to see to.
+// Start: 1, also where the first term is 0 or there are not exactly `count` reports; 18: the spacing is not 1 to
+// 65,535; 13: a report above L, unless the window is silent. Every window begins on the first term, from its report, or
+// as `Window::silent` has it; those from `count` up from a report of 0. `current` is the least report of a window that
+// is not silent, or L where all are. What the player held before is not read: that the first term is above every term
+// used so far is for the host to see to.
 pub fn start_on(
     player: Player,
     journal: &[u32],
     count: u32,
-    limit: u32,
-    spacing: u32,
-    first: Term,
+    settings: Settings,
     reports: &[u32],
-    silent: u32,
 ) -> Played
     ensures { λ r.
-        ⌜ Starts player (countOf (now (journal .entry))) count limit spacing first (said silent (now (reports .entry))) r
-        (startRule (now (journal .entry)) count limit spacing first (said silent (now (reports .entry))) (playerOf player)) ⌝ }
+        ⌜ Starts player (countOf (now (journal .entry))) count settings (now (reports .entry)) r
+        (startRule (now (journal .entry)) count settings (now (reports .entry)) (playerOf player)) ⌝ }
 {
-    if !start_in_shape(journal, count, limit, first, reports) {
+    let first = settings.first;
+    let silent = settings.silent;
+    if !start_in_shape(journal, count, settings, reports) {
         return Played {
             answer: Answer::OutOfShape,
             player,
         };
     }
-    if !spacing_fits(spacing) {
+    if !spacing_fits(settings.spacing) {
         return Played {
             answer: Answer::BadSpacing,
             player,
@@ -161,8 +164,8 @@ pub fn start_on(
     }
     let fresh = Player {
         count,
-        limit,
-        spacing,
+        limit: settings.limit,
+        spacing: settings.spacing,
         current: lowest(l, reports, silent),
         windows: windows_of(first, Index(l), reports, silent),
     };

@@ -1,9 +1,9 @@
 -- The shape of a player as code tests it: its numbers and the journal, then one window after another.
 use Prim.Native.Nat.{ℕ, _+_, _≤_, _<_}
-use mathlib.Core.Path.{_≡_, _∙_}
+use mathlib.Core.Path.{_≡_, sym, _∙_}
 use mathlib.Core.List.{List}
-use mathlib.Core.Bool.{Bool, true, false, _&&_, and-assoc}
-use borrow.Author.Tests.{leb-true}
+use mathlib.Core.Bool.{Bool, true, false, not, _&&_, and-assoc}
+use borrow.Author.Tests.{leb-true, not-true, not-false}
 use lib.ListN.{length, drop, getD}
 use lib.Dec.{leb}
 use Rattle.journal.specs.Entry.{inShape, countOf}
@@ -37,20 +37,22 @@ shape-tested : (ns : List ℕ) (p : Player) → shape ns (playerOf p) ≡ (fitNu
 unfolding shape playerOf
 shape-tested ns p = simp (firstWindows-length, and-assoc)
 
-module _ (ns : List ℕ) (p : Player) where
-  pub tested-unfit : fitNumbers ns p ≡ false → shape ns (playerOf p) ≡ false
-  tested-unfit h = rw (shape-tested ns p, h)
+-- the numbers are tested, and the answer is b
+module _ (ns : List ℕ) (p : Player) {b : Bool} (s : b ≡ fitNumbers ns p) where
+  pub tested-unfit : not b ≡ true → shape ns (playerOf p) ≡ false
+  tested-unfit h = rw (shape-tested ns p, sym s, not-true b h)
 
-  pub tested-fit : length (p .windows) ≡ 16 → fitNumbers ns p ≡ true → Tested ns p 0
+  pub tested-fit : length (p .windows) ≡ 16 → not b ≡ false → Tested ns p 0
   tested-fit long h =
-      let count = and-left (countFits (p .count)) _ h in
+      let fits = sym s ∙ not-false b h in
+      let count = and-left (countFits (p .count)) _ fits in
       let more =
-      and-right (spacingFits (p .spacing)) _ (and-right (limitFits (p .limit)) _ (and-right (countFits (p .count)) _ h)) in
+      and-right (spacingFits (p .spacing)) _ (and-right (limitFits (p .limit)) _ (and-right (countFits (p .count)) _ fits)) in
       record {
         long = long;
         few = leb-true _ _ (and-right (leb 1 (p .count)) _ count);
         entries = inShape-entries ns (and-left (inShape ns) _ more);
-        rest = rw (shape-tested ns p, h);
+        rest = rw (shape-tested ns p, fits);
       }
 
 -- window `at` is tested, and the answer is b
@@ -59,11 +61,11 @@ module _ {ns : List ℕ} {p : Player} {at : ℕ} {l : ℕ} {b : Bool} (t : Teste
   next : shape ns (playerOf p) ≡ (b && fitFrom ns p (at + 1))
   next = t .rest ∙ firstWindows-all _ _ _ _ d b i (rw (t .long) (t .few)) (rw e at s)
 
-  pub tested-out : b ≡ false → shape ns (playerOf p) ≡ false
-  tested-out h = rw (next, h)
+  pub tested-out : not b ≡ true → shape ns (playerOf p) ≡ false
+  tested-out h = rw (next, not-true b h)
 
-  pub tested-more : b ≡ true → Tested ns p (at + 1)
-  tested-more h = record { long = t .long; few = t .few; entries = t .entries; rest = rw (next, h) }
+  pub tested-more : not b ≡ false → Tested ns p (at + 1)
+  tested-more h = record { long = t .long; few = t .few; entries = t .entries; rest = rw (next, not-false b h) }
 
 pub tested-all : {ns : List ℕ} {p : Player} {at : ℕ} → Tested ns p at → p .count ≤ at → shape ns (playerOf p) ≡ true
 unfolding all

@@ -5,6 +5,7 @@ use crate::state::State;
 use journal::Index;
 use player::Played;
 use player::Player;
+use rules::Settings;
 use rules::Term;
 use window::Window;
 
@@ -52,16 +53,13 @@ fn catch_alone(window: Window, journal: &[u32], w: u32, n: Line) -> Window {
 // Start with a first term and the first `len` reports, and the spacing and the set of silent windows before W.
 fn start(p: Player, journal: &[u32], n: Line, first: Term, reports: &[u32], len: usize) -> Player {
     if len <= reports.len() {
-        return answered(operations::start_on(
-            p,
-            journal,
-            n.c,
-            n.d,
-            n.a,
+        let settings = Settings {
+            limit: n.d,
+            spacing: n.a,
             first,
-            &reports[0..len],
-            n.b,
-        ));
+            silent: n.b,
+        };
+        return answered(operations::start_on(p, journal, n.c, settings, &reports[0..len]));
     }
     p
 }
@@ -91,8 +89,8 @@ fn numbers(b: u32, c: u32, d: u32) -> Line {
     }
 }
 
-// What each operation answers, 1 where the player is out of shape: Main with the next index, the others at a window that no player has, with
-// a term and an index that are nobody's.
+// What each operation answers, 1 where the player is out of shape: Main with the next index, the others at a window
+// that no player has, with a term and an index that are nobody's.
 fn shape(p: Player, journal: &[u32]) {
     let next = std::num::wrapping_add_u32(p.current.0, 1);
     operation(p, journal, numbers(0, 0, next), b'M');

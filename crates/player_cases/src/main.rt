@@ -1,7 +1,7 @@
-// Every refusal of the player's operations, and what they make of a state. Standard input has a line for each case: a label, a colon,
-// and letters with the numbers before them. A small letter changes the state. A large one asks an operation and shows the answer, or
-// shows what the player then holds. A state is wrong in two ways where that shows the order of the checks. `n` and `g` put 0 for a number
-// that no cell can hold.
+// Every refusal of the player's operations, and what they make of a state. Standard input has a line for each case: a
+// label, a colon, and letters with the numbers before them. A small letter changes the state. A large one asks an
+// operation and shows the answer, or shows what the player then holds. A state is wrong in two ways where that shows
+// the order of the checks. `n` and `g` put 0 for a number that no cell can hold.
 //
 // | letter | what it sets | letter | what it asks |
 // |---|---|---|---|

@@ -6,7 +6,8 @@ use journal::Index;
 use player::Player;
 use window::Window;
 
-// The player, the numbers of the journal, the reports and the first term for Start, and the place of the window that letters change.
+// The player, the numbers of the journal, the reports and the first term for Start, and the place of the window that
+// letters change.
 pub(crate) struct State {
     pub(crate) player: Player,
     pub(crate) journal: Numbers,

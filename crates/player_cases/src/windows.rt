@@ -10,19 +10,7 @@ use window::Window;
 
 // A window of term 7 that was sent nothing, with a free line and nothing queued or out.
 pub(crate) fn idle() -> Window {
-    let head = Head {
-        term: Term(7),
-        acked: Index(0),
-        sent: Index(0),
-        busy: false,
-        batches: Batches::new(),
-        condition: Condition::Normal,
-    };
-    Window {
-        head,
-        normal: Queue::new(),
-        catch_up: Queue::new(),
-    }
+    Window::started(Term(7), Index(0))
 }
 
 // What a letter makes of a queue: `all` an index in every cell, `more` one more index.

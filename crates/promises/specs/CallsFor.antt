@@ -11,9 +11,9 @@ use lib.Dec.{ltb}
 use Rattle.lists.specs.Cases.{and-left, and-right, eq-or-ne, true-or-false}
 use Rattle.journal.specs.declared.Entry.{Entry}
 use Rattle.journal.specs.Entry.{countOf}
+use Rattle.rules.specs.declared.Settings.{Settings}
 use Rattle.rules.specs.declared.Term.{Term}
-use Rattle.rules.specs.Window.{Report}
-use Rattle.rules.specs.Rules.{Outcome, said, startRule}
+use Rattle.rules.specs.Rules.{Outcome, startRule}
 use Rattle.rules.specs.Offers.{startRule-done, startRule-refuses}
 use Rattle.player.specs.declared.Player.{Player}
 use Rattle.player.specs.declared.Played.{Played}
@@ -22,12 +22,9 @@ use Rattle.player.specs.Promise.{freshPlayer, Starts}
 use Rattle.operations.specs.Starting.{freshPlayer-shown}
 use Rattle.delivery.specs.World.{World, Step, Reply, answered, empty, unmade, isNew, step}
 use Rattle.delivery.specs.World as W
-use Rattle.delivery.specs.Invariant.{Reached}
-use Rattle.delivery.specs.Worlds.{count-in}
-use Rattle.delivery.specs.Reach.{reached-step}
-use Rattle.calls.specs.Host.{Host, Call, start, reportOf, isLate, MadeAll, after}
+use Rattle.delivery.specs.Offers.{Reached, count-in, reached-step}
+use Rattle.calls.specs.Host.{Host, Call, start, callStep, reportOf, isLate, MadeAll, after}
 use Rattle.calls.specs.Shows.{Shows, shows-late}
-use Rattle.calls.specs.Steps.{callStep}
 use Rattle.calls.specs.Runs.{follows}
 use Rattle.calls.specs.Answers.{start-numbered}
 use Rattle.calls.specs.CallFor.{CallFor, call-main, call-catch, call-written, call-send, call-take, call-ack, call-late, call-drop, call-join, call-append}
@@ -36,25 +33,24 @@ use Rattle.calls.specs.CallFor.{CallFor, call-main, call-catch, call-written, c
 -- Start
 
 -- what Start gives
-pub record StartGiven (before : Player) (ns : List ℕ) (count limit spacing : ℕ) (first : Term) (reports : List Report) : Type 0 where
+pub record StartGiven (before : Player) (ns : List ℕ) (count : ℕ) (settings : Settings) (reports : List ℕ) : Type 0 where
   pub gave : Played
-  pub meets : Starts before (countOf ns) count limit spacing first reports gave
-      (startRule ns count limit spacing first reports (playerOf before))
+  pub meets : Starts before (countOf ns) count settings reports gave (startRule ns count settings reports (playerOf before))
 
 -- A result to be read: whatever Start is handed, something can be given that meets its promise.
-pub start-given : (before : Player) (ns : List ℕ) (count limit spacing : ℕ) (first : Term) (reports : List Report) →
-    StartGiven before ns count limit spacing first reports
-start-given before ns count limit spacing first reports =
-    let o : Outcome = startRule ns count limit spacing first reports (playerOf before) in
-    let a = start-numbered ns count limit spacing first reports (playerOf before) in
+pub start-given : (before : Player) (ns : List ℕ) (count : ℕ) (settings : Settings) (reports : List ℕ) →
+    StartGiven before ns count settings reports
+start-given before ns count settings reports =
+    let o : Outcome = startRule ns count settings reports (playerOf before) in
+    let a = start-numbered ns count settings reports (playerOf before) in
     ⊎-elim
     (λ (z : o .answer ≡ 0).
-    let d = startRule-done ns count limit spacing first reports (playerOf before) z in
+    let d = startRule-done ns count settings reports (playerOf before) z in
     record {
-      gave = record { player = freshPlayer (countOf ns) count limit spacing first reports; answer = a .answer };
+      gave = record { player = freshPlayer (countOf ns) count settings reports; answer = a .answer };
       meets = record {
         answer = a .number;
-        next = freshPlayer-shown (countOf ns) count limit spacing first reports (d .given .each) ∙ sym (d .next);
+        next = freshPlayer-shown (countOf ns) count settings reports (d .given .each) ∙ sym (d .next);
         fresh = λ x. refl;
         unchanged = λ n. absurd (n z);
       };
@@ -63,18 +59,17 @@ start-given before ns count limit spacing first reports =
       gave = record { player = before; answer = a .answer };
       meets = record {
         answer = a .number;
-        next = sym (startRule-refuses ns count limit spacing first reports (playerOf before) n);
+        next = sym (startRule-refuses ns count settings reports (playerOf before) n);
         fresh = λ z. absurd (n z);
         unchanged = λ x. refl;
       };
     })
     (eq-or-ne (o .answer) 0)
 
-call-start : (h : Host) (limit spacing : ℕ) (first : Term) (silent : ℕ) → h .greatest < first .0 →
-    CallFor h (W.start limit spacing first silent)
-call-start h limit spacing first silent above =
-    let g = start-given (h .player) (h .journal) (length (h .windows)) limit spacing first (said silent (map reportOf (h .windows))) in
-    record { call = start limit spacing first silent (g .gave); same = refl; made = (above, g .meets) }
+call-start : (h : Host) (settings : Settings) → h .greatest < settings .first .0 → CallFor h (W.start settings)
+call-start h settings above =
+    let g = start-given (h .player) (h .journal) (length (h .windows)) settings (map reportOf (h .windows)) in
+    record { call = start settings (g .gave); same = refl; made = (above, g .meets) }
 
 -- ------------------------------------------------------------------------
 -- One step
@@ -88,24 +83,23 @@ isMade unmade = false
 
 module _ {h : Host} {wd : World} (is : Shows h wd) where
   late-made : (w : ℕ) (t : Term) (i : ℕ) → isMade (step (W.late-ack w t i) wd .reply) ≡ true → isLate w t h ≡ true
-  unfolding step
+  unfolding W.stepBy
   late-made w t i made =
       ⊎-elim
       (λ (late : isLate w t h ≡ true). late)
       (λ (soon : isLate w t h ≡ false). absurd (false≢true (rw (sym (shows-late is w t) ∙ soon) at made)))
       (true-or-false (isLate w t h))
 
-  first-above : (limit spacing : ℕ) (first : Term) (silent : ℕ) → isMade (step (W.start limit spacing first silent) wd .reply) ≡ true →
-      h .greatest < first .0
-  unfolding step
-  first-above limit spacing first silent made =
+  first-above : (settings : Settings) → isMade (step (W.start settings) wd .reply) ≡ true → h .greatest < settings .first .0
+  unfolding W.stepBy
+  first-above settings made =
       ⊎-elim
-      (λ (new : isNew first wd ≡ true). rw (is .greatest) (ltb-true _ _ new))
-      (λ (used : isNew first wd ≡ false). absurd (false≢true (rw used at made)))
-      (true-or-false (isNew first wd))
+      (λ (new : isNew (settings .first) wd ≡ true). rw (is .greatest) (ltb-true _ _ new))
+      (λ (used : isNew (settings .first) wd ≡ false). absurd (false≢true (rw used at made)))
+      (true-or-false (isNew (settings .first) wd))
 
   append-made : (e : Entry) → isMade (step (W.append e) wd .reply) ≡ true → countOf (h .journal) < 65535
-  unfolding step
+  unfolding W.stepBy
   append-made e made =
       ⊎-elim
       (λ (room : ltb (length (wd .journal)) 65535 ≡ true). rw (is .journal, count-in wd) (ltb-true _ _ room))
@@ -122,8 +116,7 @@ module _ {h : Host} {wd : World} (is : Shows h wd) where
   call-for (W.late-ack w t i) made = call-late h w t i (late-made w t i made)
   call-for (W.drop w) made = call-drop h w
   call-for (W.join w) made = call-join h w
-  call-for (W.start limit spacing first silent) made =
-      call-start h limit spacing first silent (first-above limit spacing first silent made)
+  call-for (W.start settings) made = call-start h settings (first-above settings made)
   call-for (W.append e) made = call-append h e (append-made e made)
 
 -- ------------------------------------------------------------------------

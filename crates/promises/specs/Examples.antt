@@ -7,6 +7,7 @@ use native.Mathlib.Omega.{arith}
 use Rattle.lists.specs.Cells.{front}
 use Rattle.journal.specs.Entry.{entry4, entriesOf}
 use Rattle.queue.specs.Items.{itemsOf, batchesOf}
+use Rattle.rules.specs.declared.Settings.{Settings}
 use Rattle.window.specs.declared.Answer.the-variants.{Done}
 use Rattle.window.specs.View.{viewOf}
 use Rattle.player.specs.declared.Player.{Player}
@@ -15,13 +16,12 @@ use Rattle.player.specs.View.{firstWindows, playerOf}
 use Rattle.player.specs.Promise.{freshWindows, freshPlayer}
 use Rattle.delivery.specs.World.{World, sideAt, Step, main, catch, written, send, take, ack, late-ack, drop, join, start, append, answered, run, replies}
 use Rattle.delivery.specs.Statement.{newReports, firstStart, firstWorld}
-use Rattle.delivery.specs.Demand3.{opened-reached}
-use Rattle.delivery.specs.Examples.{computed, done, wide, term, room}
-use Rattle.calls.specs.Host.{Host, endAt, Call, MadeAll, batchIn, hostAfter, opened}
+use Rattle.delivery.specs.Examples.{computed, done, chosen, term, room}
+use Rattle.delivery.specs.Offers.{opened-reached}
+use Rattle.calls.specs.Host.{Host, endAt, Call, callStep, MadeAll, batchIn, hostAfter, opened}
 use Rattle.calls.specs.Statement.{Leading, Delivers, FirstStart}
 use Rattle.calls.specs.Counts.{Counts}
 use Rattle.calls.specs.Shows.{endOf, shows-end}
-use Rattle.calls.specs.Steps.{callStep}
 use Rattle.calls.specs.Runs.{hostAfter-shows}
 use Rattle.calls.specs.Demand3Calls.{opened-shows, demand-3-calls}
 use Rattle.calls.specs.ExactCountsCalls.{exact-counts-calls}
@@ -41,10 +41,14 @@ journal3 = 3 ∷ 1 ∷ 1 ∷ 50400 ∷ 1 ∷ 2 ∷ 1 ∷ 350 ∷ 2 ∷ 3 ∷ 1 �
 
 -- what the Start gives
 abbrev pub begun : Played
-begun = record { player = freshPlayer 3 2 2 wide (term 1) (newReports 0 2); answer = Done }
+begun = record { player = freshPlayer 3 2 (chosen 1 0) (newReports 2); answer = Done }
 
 abbrev pub host0 : Host
 host0 = opened (begun .player) (term 1) journal3 2
+
+-- what the second Start is handed
+abbrev pub again : Settings
+again = record { limit = 2; spacing = 1; first = term 3; silent = 2 }
 
 -- a batch of two taken, its first entry acknowledged by itself, and the line dropped before the ack of the second; that ack is refused,
 -- the window joins, and the ack comes late and is refused again; one more entry is appended, read, sent, taken and acknowledged; nothing
@@ -55,7 +59,7 @@ abbrev pub everyKind : List Step
 everyKind =
     main 1 ∷ main 2 ∷ send 0 room ∷ take 0 true ∷ ack 0 ∷ take 0 false ∷ drop 0 ∷ ack 0 ∷ join 0 ∷ late-ack 0 (term 1) 2
     ∷ append (entry4 1 2 1 400) ∷ main 3 ∷ main 4 ∷ send 0 room ∷ written 0 (term 2) ∷ take 0 false ∷ ack 0
-    ∷ catch 0 (term 2) 4 ∷ start 2 1 (term 3) 2 ∷ late-ack 0 (term 2) 4 ∷ join 1 ∷ catch 1 (term 4) 1
+    ∷ catch 0 (term 2) 4 ∷ start again ∷ late-ack 0 (term 2) 4 ∷ join 1 ∷ catch 1 (term 4) 1
     ∷ append (entry4 2 2 1 7) ∷ main 5 ∷ send 0 room ∷ take 0 false ∷ ack 0 ∷ []
 
 -- what window 0 has then taken
@@ -65,13 +69,13 @@ taken0 =
 
 module _ (before : Player) where
   -- the Start meets its promise and is answered 0
-  pub begun-starts : FirstStart before journal3 2 2 wide (term 1) 0 begun
+  pub begun-starts : FirstStart before journal3 2 (chosen 1 0) begun
   unfolding computed playerOf firstWindows freshWindows viewOf itemsOf batchesOf front
   begun-starts = record { answer = refl; next = refl; fresh = λ z. refl; unchanged = λ n. absurd (n refl) }
 
   -- the world that the host shows
   abbrev pub world0 : World
-  world0 = firstWorld (playerOf before) (entriesOf journal3) 2 2 wide (term 1) 0
+  world0 = firstWorld (playerOf before) (entriesOf journal3) 2 (chosen 1 0)
 
   -- what the steps answer, all of which are made, and what window 0 has taken
   pub record Computed : Type 0 where
@@ -86,7 +90,7 @@ module _ (before : Player) where
   unfolding computed allMade
   every-kind = record { all = refl; answers = refl; taken = refl }
 
-  first-done : firstStart (playerOf before) (entriesOf journal3) 2 2 wide (term 1) 0 .answer ≡ 0
+  first-done : firstStart (playerOf before) (entriesOf journal3) 2 (chosen 1 0) .answer ≡ 0
   unfolding computed
   first-done = refl
 
@@ -103,10 +107,10 @@ module _ (before : Player) where
 
   pub ran : Ran
   ran =
-      let shows = opened-shows before journal3 2 2 wide (term 1) 0 begun begun-starts refl in
-      let reached = opened-reached (playerOf before) (entriesOf journal3) 2 2 wide (term 1) 0 first-done in
+      let shows = opened-shows before journal3 2 (chosen 1 0) begun begun-starts refl in
+      let reached = opened-reached (playerOf before) (entriesOf journal3) 2 (chosen 1 0) first-done in
       let c : CallsFor host0 everyKind = calls-for shows reached everyKind (every-kind .all) in
-      let delivers = demand-3-calls before journal3 2 2 wide (term 1) 0 begun begun-starts refl (c .calls) (c .made) in
+      let delivers = demand-3-calls before journal3 2 (chosen 1 0) begun begun-starts refl (c .calls) (c .made) in
       record {
         calls = c .calls;
         steps = c .same;
@@ -117,5 +121,5 @@ module _ (before : Player) where
             ∙ every-kind .taken;
         leading = delivers .leading 0 (omega arith);
         delivers = delivers;
-        counts = exact-counts-calls before journal3 2 2 wide (term 1) 0 begun begun-starts refl (c .calls) (c .made);
+        counts = exact-counts-calls before journal3 2 (chosen 1 0) begun begun-starts refl (c .calls) (c .made);
       }

@@ -80,7 +80,8 @@ unfolding pushed
 pushed-full size x q h = rw (le-ltb (length q) size h)
 
 -- the items that a store at the length makes, and those of a row with no room
-pub pushed-front-room : (size x n : ℕ) (cells : List ℕ) → length cells ≡ size → n < size → front 0 (n + 1) (set cells n x) ≡ pushed size x (front 0 n cells)
+pub pushed-front-room : (size x n : ℕ) (cells : List ℕ) → length cells ≡ size → n < size
+    → front 0 (n + 1) (set cells n x) ≡ pushed size x (front 0 n cells)
 pushed-front-room size x n cells e h =
     let room : n < length cells = omega arith in
     rw (pushed-room size x (front 0 n cells) (rw front-length h), front-push 0 n cells x room)

@@ -1,6 +1,6 @@
 -- The laws of Ack: its refusals, what it does at one window, the rule, and which batches it leaves.
 use Prim.Native.Nat.{ℕ, _≤_, _<_}
-use mathlib.Core.Path.{_≡_, ap, subst, _∙_}
+use mathlib.Core.Path.{_≡_, refl, ap, subst, _∙_}
 use mathlib.Core.List.{List, [], _∷_}
 use mathlib.Core.Bool.{Bool, true, false, not, _&&_, _||_}
 use native.Mathlib.Omega.{arith}
@@ -50,7 +50,7 @@ ackRule-refusals ns w t i p = operate-answer ns w _ p _ (λ s. simp (check-answe
 ackAt-decides : (t : Term) (i : ℕ) (v : WindowView) →
     Decides (isSuspended (v .condition) ∷ otherTerm t v ∷ not (isAck i v) ∷ []) v (acknowledged i v) (ackAt t i v)
 unfolding ackAt
-ackAt-decides t i v = check-decides 2 (check-decides 4 (check-decides 10 (done-decides v _)))
+ackAt-decides t i v = check-decides 3 refl (check-decides 5 refl (check-decides 11 refl (done-decides v _)))
 
 -- answered 0: the window was not Suspended, the term was its own, and the index was above acknowledged and not above sent
 pub record AckTaken (t : Term) (i : ℕ) (v : WindowView) : Type 0 where

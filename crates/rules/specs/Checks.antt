@@ -1,10 +1,10 @@
 -- A check in a window's rule: where it stops the rule and where the rule goes on, and what checks in a row decide.
-use Prim.Native.Nat.{ℕ, suc}
+use Prim.Native.Nat.{ℕ}
 use mathlib.Core.Path.{_≡_, refl, ap}
 use mathlib.Core.List.{List, [], _∷_}
 use mathlib.Core.Bool.{Bool, true, false, true≢false}
-use native.Mathlib.Omega.{arith}
-use borrow.Author.Tests.{eqb-true, eq-eqb, not-false}
+use borrow.Author.Tests.{eqb-true, eqb-false, eq-eqb, not-false}
+use lib.Dec.{eqb}
 use Rattle.rules.specs.declared.Term.{Term}
 use Rattle.rules.specs.View.{WindowView}
 use Rattle.rules.specs.Window.{Turn, done, refusal, check, otherTerm}
@@ -26,10 +26,11 @@ pub record Passed (b : Bool) (n : ℕ) (v : WindowView) (t : Turn) : Type 0 wher
   pub same : check b n v t ≡ t
   pub rest : t .answer ≡ 0
 
-pub check-passed : (b : Bool) (n : ℕ) (v : WindowView) (t : Turn) → check b (suc n) v t .answer ≡ 0 → Passed b (suc n) v t
+-- n, the refusal's number, is not 0
+pub check-passed : (b : Bool) (n : ℕ) → eqb n 0 ≡ false → (v : WindowView) (t : Turn) → check b n v t .answer ≡ 0 → Passed b n v t
 unfolding check
-check-passed true n v t e = absurd (omega arith)
-check-passed false n v t e = record { test = refl; same = refl; rest = e }
+check-passed true n some v t e = absurd (eqb-false n 0 some e)
+check-passed false n some v t e = record { test = refl; same = refl; rest = e }
 
 -- a refusal changes nothing
 abbrev pub Refuses : WindowView → Turn → Type 0
@@ -59,13 +60,14 @@ decides-next d e = ap (λ t. t .next) (d .can (d .passed e))
 pub done-decides : (v v′ : WindowView) → Decides [] v v′ (done v′)
 done-decides v v′ = record { refuses = λ n. absurd (n refl); passed = λ e. tt; can = λ f. refl }
 
-pub check-decides : {b : Bool} {bs : List Bool} {v v′ : WindowView} {t : Turn} (n : ℕ) → Decides bs v v′ t →
-    Decides (b ∷ bs) v v′ (check b (suc n) v t)
+-- one check more, whose number n is not 0
+pub check-decides : {b : Bool} {bs : List Bool} {v v′ : WindowView} {t : Turn} (n : ℕ) → eqb n 0 ≡ false → Decides bs v v′ t →
+    Decides (b ∷ bs) v v′ (check b n v t)
 unfolding check
-check-decides {b} {bs} {v} {v′} {t} n d = go b
+check-decides {b} {bs} {v} {v′} {t} n some d = go b
   where
-    go : (b : Bool) → Decides (b ∷ bs) v v′ (check b (suc n) v t)
-    go true = record { refuses = λ h. refl; passed = λ e. absurd (omega arith); can = λ f. absurd (true≢false (f .0)) }
+    go : (b : Bool) → Decides (b ∷ bs) v v′ (check b n v t)
+    go true = record { refuses = λ h. refl; passed = λ e. absurd (eqb-false n 0 some e); can = λ f. absurd (true≢false (f .0)) }
     go false = record { refuses = d .refuses; passed = λ e. (refl, d .passed e); can = λ f. d .can (f .1) }
 
 -- ------------------------------------------------------------------------

@@ -1,6 +1,6 @@
 -- The laws of Drop: its refusals, what it does at one window, and the rule.
 use Prim.Native.Nat.{ℕ}
-use mathlib.Core.Path.{_≡_}
+use mathlib.Core.Path.{_≡_, refl}
 use mathlib.Core.List.{List, [], _∷_}
 use mathlib.Core.Bool.{false}
 use Rattle.lists.specs.Refusal.{_when_, firstOf}
@@ -30,7 +30,7 @@ dropRule-refusals ns w p = operate-answer ns w _ p _ (λ s. simp check-answer)
 
 dropAt-decides : (v : WindowView) → Decides (isSuspended (v .condition) ∷ []) v (dropped v) (dropAt v)
 unfolding dropAt
-dropAt-decides v = check-decides 2 (done-decides v _)
+dropAt-decides v = check-decides 3 refl (done-decides v _)
 
 -- answered 0: the window was not Suspended
 pub record DroppedOff (v : WindowView) : Type 0 where

@@ -6,13 +6,14 @@ use mathlib.Core.List.{List, [], _∷_, map}
 use mathlib.Core.Bool.{true, false, not, cond, _&&_}
 use lib.ListN.{length}
 use lib.Dec.{eqb}
-use Rattle.journal.specs.Entry.{inShape, countOf, entriesOf}
+use Rattle.journal.specs.Entry.{inShape, countOf, entriesOf, hasWindow}
 use Rattle.lists.specs.All.{all}
 use Rattle.rules.specs.declared.Term.{Term}
+use Rattle.rules.specs.declared.Settings.{Settings}
 use Rattle.rules.specs.View.{Condition, normal, suspended, WindowView, PlayerView}
 use Rattle.rules.specs.Shape.{countFits, limitFits, spacingFits, windowShape, shape}
 use Rattle.rules.specs.Window.{check, ackAt, dropAt, joinAt, Report, told, silence, startedBy}
-use Rattle.rules.specs.Rules.{Outcome, refuse, operate, dropRule, joinRule, isStartReport, spoken, least, startRule}
+use Rattle.rules.specs.Rules.{Outcome, refuse, operate, dropRule, joinRule, saidFrom, said, isStartReport, spoken, least, startRule}
 
 abbrev term : ℕ → Term
 term n = record { 0 = n }
@@ -37,18 +38,20 @@ abbrev pub onTermOne : ℕ → Report → WindowView
 onTermOne l (told r) = idle 1 r r normal
 onTermOne l silence = idle 1 0 l suspended
 
-unfoldable pub termlessStart : List ℕ → (count limit spacing : ℕ) → List Report → PlayerView → Outcome
-termlessStart ns count limit spacing reports p =
-    cond (not (countFits count && (limitFits limit && (inShape ns && eqb (length reports) count)))) (refuse 1 p)
-    (cond (not (spacingFits spacing)) (refuse 18 p)
-    (cond (not (all (isStartReport (countOf ns)) reports)) (refuse 13 p)
+-- of the settings it reads no first term
+unfoldable pub termlessStart : List ℕ → (count : ℕ) → Settings → (reports : List ℕ) → PlayerView → Outcome
+termlessStart ns count settings reports p =
+    let heard : List Report = said (settings .silent) reports in
+    cond (not (countFits count && (limitFits (settings .limit) && (inShape ns && eqb (length reports) count)))) (refuse 1 p)
+    (cond (not (spacingFits (settings .spacing))) (refuse 18 p)
+    (cond (not (all (isStartReport (countOf ns)) heard)) (refuse 13 p)
     (record {
       answer = 0;
       next = record {
-        limit = limit;
-        spacing = spacing;
-        current = least (countOf ns) (spoken reports);
-        windows = map (onTermOne (countOf ns)) reports;
+        limit = settings .limit;
+        spacing = settings .spacing;
+        current = least (countOf ns) (spoken heard);
+        windows = map (onTermOne (countOf ns)) heard;
       };
     })))
 
@@ -58,10 +61,10 @@ term-one-windows l (told r ∷ reports) = ap (λ vs. idle 1 r r normal ∷ vs) (
 term-one-windows l (silence ∷ reports) = ap (λ vs. idle 1 0 l suspended ∷ vs) (term-one-windows l reports)
 
 -- A result to be read: with the first term 1, Start is that one.
-pub startRule-term-one : (ns : List ℕ) (count limit spacing : ℕ) (reports : List Report) (p : PlayerView) →
-    startRule ns count limit spacing (term 1) reports p ≡ termlessStart ns count limit spacing reports p
+pub startRule-term-one : (ns : List ℕ) (count : ℕ) (settings : Settings) (reports : List ℕ) (p : PlayerView) →
+    settings .first ≡ term 1 → startRule ns count settings reports p ≡ termlessStart ns count settings reports p
 unfolding startRule termlessStart
-startRule-term-one ns count limit spacing reports p = rw (term-one-windows (countOf ns) reports)
+startRule-term-one ns count settings reports p one = rw (one, term-one-windows (countOf ns) (said (settings .silent) reports))
 
 -- ------------------------------------------------------------------------
 -- Computed: two windows, of which window 1 is silent, over a journal of no entries
@@ -69,14 +72,18 @@ startRule-term-one ns count limit spacing reports p = rw (term-one-windows (coun
 abbrev nobody : PlayerView
 nobody = record { limit = 0; spacing = 0; current = 0; windows = [] }
 
+-- a batch limit of 2, and window 1 in the set of silent windows
+abbrev settings : (spacing first : ℕ) → Settings
+settings spacing first = record { limit = 2; spacing = spacing; first = term first; silent = 2 }
+
 abbrev startOn : ℕ → Outcome
-startOn n = startRule [] 2 2 1 (term n) (told 0 ∷ silence ∷ []) nobody
+startOn n = startRule [] 2 (settings 1 n) (0 ∷ 0 ∷ []) nobody
 
 -- 0 is refused, before the spacing is looked at; 1 and the last term are taken, and both windows have them; from the last term no window
 -- joins, neither the silent one nor one that was dropped; from the one before it a window joins once
 pub record FirstTerms : Type 0 where
   pub none : startOn 0 ≡ refuse 1 nobody
-  pub noneFirst : startRule [] 2 2 0 (term 0) (told 1 ∷ silence ∷ []) nobody .answer ≡ 1
+  pub noneFirst : startRule [] 2 (settings 0 0) (1 ∷ 0 ∷ []) nobody .answer ≡ 1
   pub one : startOn 1 .next .windows ≡ idle 1 0 0 normal ∷ idle 1 0 0 suspended ∷ []
   pub last : startOn 4294967295 .answer ≡ 0
   pub lastHeld : startOn 4294967295 .next .windows ≡ idle 4294967295 0 0 normal ∷ idle 4294967295 0 0 suspended ∷ []
@@ -85,7 +92,7 @@ pub record FirstTerms : Type 0 where
   pub joinBefore : joinRule [] 1 0 (startOn 4294967294 .next) .next .windows ≡ idle 4294967294 0 0 normal ∷ idle 4294967295 0 0 normal ∷ []
 
 pub first-terms : FirstTerms
-unfolding startRule joinRule joinAt dropRule dropAt operate check shape windowShape all spoken least entriesOf
+unfolding startRule joinRule joinAt dropRule dropAt operate check shape windowShape all saidFrom spoken least entriesOf hasWindow
 first-terms = record {
   none = refl;
   noneFirst = refl;

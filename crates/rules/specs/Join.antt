@@ -46,7 +46,7 @@ joinAt-decides : (current r : ℕ) (v : WindowView) →
     Decides (not (isSuspended (v .condition)) ∷ eqb (v .term .0) 4294967295 ∷ (ltb r (v .acked) || ltb (v .sent) r) ∷ []) v
     (joined current r v) (joinAt current r v)
 unfolding joinAt
-joinAt-decides current r v = check-decides 11 (check-decides 13 (check-decides 12 (done-decides v _)))
+joinAt-decides current r v = check-decides 12 refl (check-decides 14 refl (check-decides 13 refl (done-decides v _)))
 
 -- answered 0: the window was Suspended, and the report was from acknowledged to sent; the term goes up
 pub record JoinedOn (current r : ℕ) (v : WindowView) : Type 0 where

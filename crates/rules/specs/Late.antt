@@ -4,25 +4,24 @@ use mathlib.Core.Path.{_≡_, refl, ap, subst⁻¹, _∙_}
 use mathlib.Core.List.{List}
 use mathlib.Core.Bool.{true}
 use native.Mathlib.Omega.{arith}
-use lib.ListN.{length, getD}
-use Rattle.journal.specs.Entry.{countOf}
+use lib.ListN.{length}
+use Rattle.journal.specs.Entry.{countOf, hasWindow}
 use Rattle.rules.specs.declared.Term.{Term}
+use Rattle.rules.specs.declared.Settings.{Settings}
 use Rattle.rules.specs.View.{suspended, WindowView, PlayerView}
 use Rattle.rules.specs.Shape.{shape}
-use Rattle.rules.specs.Window.{isSuspended, Report, silence, atStart, startedBy}
+use Rattle.rules.specs.Window.{isSuspended, atStart}
 use Rattle.rules.specs.Rules.{windowAt, joinRule, startRule}
 use Rattle.rules.specs.Join.{joinRule-can}
 use Rattle.rules.specs.Start.{startNext-at, startRule-done}
 
 -- A result to be read: on the first term, Suspended, acknowledged 0 and sent L.
-pub silent-held : (ns : List ℕ) (count limit spacing : ℕ) (first : Term) (reports : List Report) (p : PlayerView) →
-    startRule ns count limit spacing first reports p .answer ≡ 0 → (w : ℕ) → w < count → getD reports w silence ≡ silence →
-    windowAt w (startRule ns count limit spacing first reports p .next) ≡ atStart first 0 (countOf ns) suspended
-silent-held ns count limit spacing first reports p done w within quiet =
-    let d = startRule-done ns count limit spacing first reports p done in
-    ap (windowAt w) (d .next)
-    ∙ startNext-at (countOf ns) limit spacing first reports w (omega (arith, d .given .each))
-    ∙ ap (startedBy first (countOf ns)) quiet
+pub silent-held : (ns : List ℕ) (count : ℕ) (settings : Settings) (reports : List ℕ) (p : PlayerView) →
+    startRule ns count settings reports p .answer ≡ 0 → (w : ℕ) → w < count → hasWindow w (settings .silent) ≡ true →
+    windowAt w (startRule ns count settings reports p .next) ≡ atStart (settings .first) 0 (countOf ns) suspended
+silent-held ns count settings reports p done w within quiet =
+    let d = startRule-done ns count settings reports p done in
+    ap (windowAt w) (d .next) ∙ startNext-at (countOf ns) settings reports w (omega (arith, d .given .each)) ∙ rw quiet
 
 -- A result to be read: while that is held and the term can go up, a Join is answered 0 at every report up to sent.
 pub silent-joins : (ns : List ℕ) (w : ℕ) (first : Term) (l : ℕ) (p : PlayerView) → first .0 < 4294967295 →

@@ -27,8 +27,9 @@ pub use Rattle.rules.specs.OtherTerm.{turnedAway-some, catchRule-turned,
 pub use Rattle.rules.specs.Drop.{dropRule-refusals, dropEffect, dropRule-lawful}
 -- Join: what its answer 0 tells; when it is answered 0.
 pub use Rattle.rules.specs.Join.{joinRule-refusals, joinEffect, joinRule-lawful, joinRule-done, joinRule-can}
--- Start: what it is told; the least report; the player that it makes; what its answer 0 tells; the shape.
-pub use Rattle.rules.specs.Said.{said-length, said-at, said-unread, reports-le, least-le}
-pub use Rattle.rules.specs.Start.{startRule-refusals, startNext, startNext-at, StartDone, startRule-done, startRule-refuses, start-shaped}
+-- Start: what it is told, and a bound of the reports; the player that it makes: how many windows, each of them, and `current`; what its
+-- answer 0 tells; the shape.
+pub use Rattle.rules.specs.Said.{said-length, said-at, said-unread, reports-le}
+pub use Rattle.rules.specs.Start.{startRule-refusals, startNext, startNext-count, startNext-at, startNext-current, StartDone, startRule-done, startRule-refuses, startRule-unread, start-shaped}
 -- An append: the shape.
 pub use Rattle.rules.specs.Append.{append-shaped}

@@ -123,7 +123,8 @@ operate-lawful ns w f p x law =
       refuses =
           operate-cases ns w f p (λ o. (o .answer ≡ 0 → ⊥) → o .next ≡ p) (λ n. refl) (λ n. refl)
           (λ s h n. ap (λ v. withWindow w v p) (law .refuses n)
-          ∙ ap (λ vs. record { limit = p .limit; spacing = p .spacing; current = p .current; windows = vs }) (set-getD (p .windows) w noWindow));
+          ∙ ap (λ vs. record { limit = p .limit; spacing = p .spacing; current = p .current; windows = vs })
+          (set-getD (p .windows) w noWindow));
       does =
           operate-cases ns w f p
           (λ o. o .answer ≡ 0 → Operated ns w p o (x .tells (entriesOf ns) (windowAt w p)) (x .makes (entriesOf ns) (windowAt w p)))

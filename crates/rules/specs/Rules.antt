@@ -9,6 +9,7 @@ use Rattle.journal.specs.declared.Entry.{Entry}
 use Rattle.journal.specs.Entry.{Placed, entry4, inShape, countOf, entriesOf, placedAt, fiveOf, isFor, hasWindow}
 use Rattle.lists.specs.All.{all}
 use Rattle.rules.specs.declared.Term.{Term}
+use Rattle.rules.specs.declared.Settings.{Settings}
 use Rattle.rules.specs.View.{WindowView, PlayerView, noWindow}
 use Rattle.rules.specs.Shape.{countFits, limitFits, spacingFits, shape}
 use Rattle.rules.specs.Window.{Turn, mainAt, catchAt, batchOf, sendAt, writtenAt, ackAt, dropAt, joinAt, Report, told, silence, startedBy}
@@ -103,8 +104,8 @@ sendOutput ns w out p =
     cond (eqb (sendRule ns w (length out) p .answer) 0) (sent ++ drop (length sent) out) out
 
 -- ------------------------------------------------------------------------
--- Start: W, the batch limit, the spacing, the first term, and from each window its report or silence; what the player held before is not
--- read
+-- Start: W, the settings (the batch limit, the spacing, the first term and the set of silent windows), and a report for each window; what
+-- the player held before is not read
 
 -- a window speaks if the set of silent windows does not have it
 abbrev pub speaks : ℕ → ℕ → Bool
@@ -143,23 +144,26 @@ least l (r ∷ s ∷ rs) = min r (least l (s ∷ rs))
 abbrev pub firstFits : Term → Bool
 firstFits first = leb 1 (first .0)
 
--- W, the batch limit, the first term and the journal are in shape, and there are exactly W reports, n being their number
-abbrev pub startFits : List ℕ → (count limit : ℕ) → Term → ℕ → Bool
-startFits ns count limit first n = countFits count && (limitFits limit && (firstFits first && (inShape ns && eqb n count)))
+-- W, the batch limit, the first term and the journal are in shape, and there are exactly W reports
+abbrev pub startFits : List ℕ → (count : ℕ) → Settings → (reports : List ℕ) → Bool
+startFits ns count settings reports =
+    countFits count
+    && (limitFits (settings .limit) && (firstFits (settings .first) && (inShape ns && eqb (length reports) count)))
 
 -- 1, also if the first term is 0, or if there are not exactly W reports. 18: the spacing outside its limits. 13: a report above L.
 -- `current` is the least report, or L if all windows are silent
-unfoldable pub startRule : List ℕ → (count limit spacing : ℕ) → Term → List Report → PlayerView → Outcome
-startRule ns count limit spacing first reports p =
-    cond (not (startFits ns count limit first (length reports))) (refuse 1 p)
-    (cond (not (spacingFits spacing)) (refuse 18 p)
-    (cond (not (all (isStartReport (countOf ns)) reports)) (refuse 13 p)
+unfoldable pub startRule : List ℕ → (count : ℕ) → Settings → (reports : List ℕ) → PlayerView → Outcome
+startRule ns count settings reports p =
+    let heard : List Report = said (settings .silent) reports in
+    cond (not (startFits ns count settings reports)) (refuse 1 p)
+    (cond (not (spacingFits (settings .spacing))) (refuse 18 p)
+    (cond (not (all (isStartReport (countOf ns)) heard)) (refuse 13 p)
     (record {
       answer = 0;
       next = record {
-        limit = limit;
-        spacing = spacing;
-        current = least (countOf ns) (spoken reports);
-        windows = map (startedBy first (countOf ns)) reports;
+        limit = settings .limit;
+        spacing = settings .spacing;
+        current = least (countOf ns) (spoken heard);
+        windows = map (startedBy (settings .first) (countOf ns)) heard;
       };
     })))

@@ -9,8 +9,8 @@ use Rattle.journal.specs.Entry.{entry4, numbersOf, entriesOf, entryAt, hasWindo
 use Rattle.lists.specs.All.{all}
 use Rattle.rules.specs.View.{Condition, normal, fetching, completed, suspended, WindowView, PlayerView}
 use Rattle.rules.specs.Shape.{windowShape, shape}
-use Rattle.rules.specs.Window.{check, requeue, enqueue, readAt, tickAt, mainAt, ackAt, joinAt, told}
-use Rattle.rules.specs.Rules.{operate, ackRule, joinRule, sentFor, batchNumbers, startRule}
+use Rattle.rules.specs.Window.{check, requeue, enqueue, readAt, tickAt, mainAt, ackAt, joinAt}
+use Rattle.rules.specs.Rules.{operate, ackRule, joinRule, sentFor, batchNumbers, saidFrom, startRule}
 
 -- a window that has what is shown
 abbrev window : (acked sent : ℕ) → (busy : Bool) → (batches n q : List ℕ) → Condition → WindowView
@@ -117,7 +117,8 @@ sentTick batches s = window 0 2 false batches [] [] s
 -- what Start answers of one window, to a count, a spacing and a report
 abbrev startAnswer : (count spacing report : ℕ) → ℕ
 startAnswer count spacing report =
-    startRule (numbersOf three) count 2 spacing (record { 0 = 1 }) (told report ∷ []) (playerWith 3 quiet) .answer
+    startRule (numbersOf three) count (record { limit = 2; spacing = spacing; first = record { 0 = 1 }; silent = 0 }) (report ∷ [])
+    (playerWith 3 quiet) .answer
 
 -- 1 to 65,535; 1 comes before 18, and 18 before 13
 pub record SpacingAtStart : Type 0 where
@@ -130,7 +131,7 @@ pub record SpacingAtStart : Type 0 where
   pub reportLast : startAnswer 1 1 4 ≡ 13
 
 pub spacing-at-start : SpacingAtStart
-unfolding startRule all numbersOf
+unfolding startRule saidFrom all numbersOf hasWindow
 spacing-at-start = record {
   none = refl;
   least = refl;
@@ -163,5 +164,5 @@ pub record TicksIndex : Type 0 where
   pub started : startAnswer 1 3 2 ≡ 0
 
 pub ticks-index : TicksIndex
-unfolding startRule ackRule ackAt joinRule joinAt operate check shape windowShape all numbersOf entriesOf isFor entryAt hasWindow
+unfolding startRule saidFrom ackRule ackAt joinRule joinAt operate check shape windowShape all numbersOf entriesOf isFor entryAt hasWindow
 ticks-index = record { other = refl; acked = refl; joined = refl; started = refl }

@@ -1,6 +1,6 @@
 -- The laws of Written: its refusals, what it does at one window, and the rule.
 use Prim.Native.Nat.{ℕ, _<_}
-use mathlib.Core.Path.{_≡_, _∙_}
+use mathlib.Core.Path.{_≡_, refl, _∙_}
 use mathlib.Core.List.{List, [], _∷_}
 use mathlib.Core.Bool.{true, false, not}
 use borrow.Author.Tests.{lt-ltb, not-false}
@@ -38,7 +38,7 @@ writtenRule-refusals ns w t p = operate-answer ns w _ p _ (λ s. simp check-answ
 writtenAt-decides : (t : Term) (v : WindowView) →
     Decides (isSuspended (v .condition) ∷ otherTerm t v ∷ not (v .busy) ∷ []) v (freed v) (writtenAt t v)
 unfolding writtenAt
-writtenAt-decides t v = check-decides 2 (check-decides 4 (check-decides 7 (done-decides v _)))
+writtenAt-decides t v = check-decides 3 refl (check-decides 5 refl (check-decides 8 refl (done-decides v _)))
 
 -- answered 0: the window was not Suspended, the term was its own, and its line was busy
 pub record WrittenOff (t : Term) (v : WindowView) : Type 0 where

@@ -1,6 +1,7 @@
-// The runner: plays the inputs that its arguments name, or standard input where it has no argument, and writes the answers to standard
-// output. What a line says is in `script_line`, what a journal text says in `journal_text`, and what a step does in `script`. No contract can
-// speak of what is read or written, so most functions here promise only that they are safe and end.
+// The runner: plays the inputs that its arguments name, or standard input where it has no argument, and writes the
+// answers to standard output. What a line says is in `script_line`, what a journal text says in `journal_text`, and what
+// a step does in `script`. No contract can speak of what is read or written, so most functions here promise only that
+// they are safe and end.
 mod input;
 mod output;
 mod play;

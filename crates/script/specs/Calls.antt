@@ -22,8 +22,7 @@ use Rattle.player.specs.Promise.{Meets}
 use Rattle.window.specs.Promise.{numberOf}
 use Rattle.delivery.specs.World.{World, sideAt, numbersIn, playerIn, answered, called, calledThen}
 use Rattle.delivery.specs.World as W
-use Rattle.delivery.specs.Worlds.{withPlayer-same}
-use Rattle.delivery.specs.Stepped.{calledThen-refused}
+use Rattle.delivery.specs.Offers.{withPlayer-same, calledThen-refused}
 use Rattle.script_line.specs.declared.Step.{Step}
 use Rattle.script_line.specs.declared.Step.the-variants.{Main, At}
 use Rattle.script_line.specs.declared.Verb.the-variants.{Catch, Written, Drop}
@@ -120,7 +119,7 @@ module _ (ns : List ℕ) (s : Stage) (h : Staged s) (e : inShape ns ≡ true) wh
       go false g = simp g
 
   pub main-calls : W.step (stepIn wd Main) wd ≡ called (outcomeAt ns (s .player) (slotIn 0 s) Main) wd
-  unfolding W.step worldOf playerOf
+  unfolding W.stepBy worldOf playerOf
   main-calls =
       ap (λ o. called o wd)
       (rule-here (λ n p. mainRule n (s .player .current .0 + 1) p)
@@ -129,17 +128,17 @@ module _ (ns : List ℕ) (s : Stage) (h : Staged s) (e : inShape ns ≡ true) wh
 
   module _ (w : ℕ) where
     pub catch-calls : W.step (stepIn wd (At Catch w)) wd ≡ called (outcomeAt ns (s .player) (slotIn w s) (At Catch w)) wd
-    unfolding W.step
+    unfolding W.stepBy
     catch-calls =
         ap (λ v. W.step (W.catch w (v .term) (dueIn (v .condition))) wd) (view-here w)
         ∙ ap (λ o. called o wd) (rule-here (λ n p. catchRule n w (windowAt w player .term) (dueIn (windowAt w player .condition)) p))
 
     pub written-calls : W.step (stepIn wd (At Written w)) wd ≡ called (outcomeAt ns (s .player) (slotIn w s) (At Written w)) wd
-    unfolding W.step
+    unfolding W.stepBy
     written-calls =
         ap (λ v. W.step (W.written w (v .term)) wd) (view-here w)
         ∙ ap (λ o. called o wd) (rule-here (λ n p. writtenRule n w (windowAt w player .term) p))
 
     pub drop-calls : W.step (stepIn wd (At Drop w)) wd ≡ called (outcomeAt ns (s .player) (slotIn w s) (At Drop w)) wd
-    unfolding W.step
+    unfolding W.stepBy
     drop-calls = ap (λ o. called o wd) (rule-here (λ n p. dropRule n w p))

@@ -12,6 +12,7 @@ use Rattle.script_line.specs.declared.Step.{Step}
 use Rattle.script_line.specs.declared.Step.the-variants.{Main, At}
 use Rattle.script_line.specs.declared.Verb.the-variants.{Catch, Send, Written, Ack, Drop, Join, Take}
 use Rattle.script.specs.declared.slot.Slot.{Slot}
+use Rattle.script.specs.declared.early.Early.{Early}
 use Rattle.script.specs.declared.early.Early.the-variants as early
 use Rattle.script.specs.declared.Stage.{Stage}
 use Rattle.script.specs.declared.Reply.{Reply}
@@ -66,8 +67,8 @@ module _ (ns : List ℕ) (s : Stage) (st : Step) (x : Slot) (here : s .player .c
     pub can : playable ns s st ≡ true
     pub has : lacks x st ≡ false
 
-  pub early-none : earlyAt ns (s .player .count) x st ≡ early.None → GoesOn
-  early-none = by test refl (lacks x st) refl
+  pub early-none : {e : Early} → e ≡ earlyAt ns (s .player .count) x st → e ≡ early.None → GoesOn
+  early-none is none = by test refl (lacks x st) refl (sym is ∙ none)
     where
       by : (a : Bool) → test ≡ a → (b : Bool) → lacks x st ≡ b →
           cond a (cond b (early.Answer (cond (x .there) Empty (Answered 2))) early.None) (early.Answer (Answered 1)) ≡ early.None → GoesOn
@@ -75,9 +76,9 @@ module _ (ns : List ℕ) (s : Stage) (st : Step) (x : Slot) (here : s .player .c
       by true p false q e = record { can = sym test-playable ∙ p; has = q }
       by false p b q e = let z : _≡_ {A = ℕ} 0 1 = cc in absurd (omega arith)
 
-  pub early-plays : (y : Reply) → length (s .records) ≡ 16 → length (s .lines) ≡ 16 →
-      earlyAt ns (s .player .count) x st ≡ early.Answer y → Plays ns s st (record { reply = y; stage = s })
-  early-plays y records lines = by test refl (lacks x st) refl
+  pub early-plays : (y : Reply) → length (s .records) ≡ 16 → length (s .lines) ≡ 16 → {e : Early} →
+      e ≡ earlyAt ns (s .player .count) x st → e ≡ early.Answer y → Plays ns s st (record { reply = y; stage = s })
+  early-plays y records lines is answer = by test refl (lacks x st) refl (sym is ∙ answer)
     where
       by : (a : Bool) → test ≡ a → (b : Bool) → lacks x st ≡ b →
           cond a (cond b (early.Answer (cond (x .there) Empty (Answered 2))) early.None) (early.Answer (Answered 1)) ≡ early.Answer y →

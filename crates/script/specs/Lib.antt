@@ -12,7 +12,3 @@ pub mod Sends
 pub mod Early
 pub mod Played
 pub mod Opening
-pub mod Room
-pub mod Tickless
-pub mod Shown
-pub mod Delivered

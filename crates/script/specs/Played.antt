@@ -22,7 +22,7 @@ use Rattle.player.specs.View.{playerOf}
 use Rattle.player.specs.Promise.{Meets}
 use Rattle.window.specs.Promise.{numberOf}
 use Rattle.delivery.specs.World.{World, rejoined}
-use Rattle.delivery.specs.Stepped.{called-then}
+use Rattle.delivery.specs.Offers.{called-then}
 use Rattle.script_line.specs.declared.Step.{Step}
 use Rattle.script_line.specs.declared.Verb.{Verb}
 use Rattle.script_line.specs.declared.Step.the-variants.{Main, At}

@@ -83,7 +83,7 @@ module _ (ns : List ℕ) (s : Stage) (h : Staged s) (e : inShape ns ≡ true) (w
 
   pub send-calls : W.step (stepIn wd (At Send w)) wd
       ≡ calledThen (outcomeAt ns (s .player) (slotIn w s) (At Send w)) (changed w withBatch) wd
-  unfolding W.step worldOf
+  unfolding W.stepBy worldOf
   send-calls = ap (λ o. calledThen o (changed w withBatch) wd) (rule-here ns s h e (λ n p. sendRule n w 10 p))
 
   pub send-steps : (r : Played) (x : Settled) (out : List ℕ) → Meets (s .player) r (outcomeAt ns (s .player) (slotIn w s) (At Send w)) →

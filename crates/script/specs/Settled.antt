@@ -20,7 +20,7 @@ use Rattle.window.specs.Promise.{numberOf}
 use Rattle.delivery.specs.World.{Side, World, sideAt, numbersIn, playerIn, withView, withLines, answered, calledThen}
 use Rattle.delivery.specs.World.{takeAtLine, ackAtLine, cleared, rejoined}
 use Rattle.delivery.specs.World as W
-use Rattle.delivery.specs.Stepped.{calledThen-done}
+use Rattle.delivery.specs.Offers.{calledThen-done}
 use Rattle.script_line.specs.declared.Step.{Step}
 use Rattle.script_line.specs.declared.Step.the-variants.{At}
 use Rattle.script_line.specs.declared.Verb.the-variants.{Ack, Join, Take}
@@ -91,7 +91,7 @@ module _ (j : List Entry) (s : Stage) (h : Staged s) where
 
   pub take-nothing : (w : ℕ) → lineIn w s .entries .len ≡ 0 →
       Steps j s (At Take w) (record { reply = cond (ltb w (s .player .count)) Empty (Answered 2); stage = s })
-  unfolding W.step
+  unfolding W.stepBy
   take-nothing w none =
       nothing-steps (At Take w) w
       (ap (λ l. cond (ltb w (length (wd .sides))) (takeAtLine w false l wd) (W.stays (answered 2) wd))
@@ -99,7 +99,7 @@ module _ (j : List Entry) (s : Stage) (h : Staged s) where
 
   pub ack-nothing : (w : ℕ) → lineIn w s .acks .len ≡ 0 →
       Steps j s (At Ack w) (record { reply = cond (ltb w (s .player .count)) Empty (Answered 2); stage = s })
-  unfolding W.step
+  unfolding W.stepBy
   ack-nothing w none =
       nothing-steps (At Ack w) w
       (ap (λ l. cond (ltb w (length (wd .sides))) (ackAtLine w l wd) (W.stays (answered 2) wd))
@@ -130,7 +130,7 @@ module _ (ns : List ℕ) (s : Stage) (h : Staged s) (e : inShape ns ≡ true) (w
   player = playerOf (s .player)
 
   pub join-calls : W.step (stepIn here (At Join w)) here ≡ calledThen (outcomeAt ns (s .player) (slotIn w s) (At Join w)) (rejoined w) here
-  unfolding W.step
+  unfolding W.stepBy
   join-calls =
       ap (λ own. calledThen (joinRule (numbersIn here) w (own .last .0) (playerIn here)) (rejoined w) here)
       (record-here (entriesOf ns) s h w)
@@ -167,7 +167,7 @@ module _ (ns : List ℕ) (s : Stage) (h : Staged s) (e : inShape ns ≡ true) (w
 
     pub ack-calls : W.step (stepIn here (At Ack w)) here
         ≡ calledThen (outcomeAt ns (s .player) (slotIn w s) (At Ack w)) (changed w withoutAck) here
-    unfolding W.step
+    unfolding W.stepBy
     ack-calls =
         let ack : declared.Ack = slotIn w s .ack in
         simp (lt-ltb w (length (here .sides)) (omega (arith, within, worldOf-count (entriesOf ns) s)))

@@ -17,7 +17,7 @@ use Rattle.player.specs.declared.Player.{Player}
 use Rattle.player.specs.View.{playerOf}
 use Rattle.delivery.specs.World.{World, sideAt, withSide, takeFront, answered, takeAtLine}
 use Rattle.delivery.specs.World as W
-use Rattle.delivery.specs.Worlds.{withWindows}
+use Rattle.delivery.specs.Offers.{withWindows}
 use Rattle.script_line.specs.declared.Step.the-variants.{At}
 use Rattle.script_line.specs.declared.Verb.the-variants.{Take}
 use Rattle.script.specs.declared.line.Sent.{Sent}
@@ -65,7 +65,7 @@ sideOf-taken v x own l sent rest front o off =
 
 pub take-steps : (j : List Entry) (s : Stage) → Staged s → (w : ℕ) (p : Player) (r : Settled) → playerOf p ≡ playerOf (s .player) →
     0 < lineIn w s .entries .len → Takes (slotIn w s) r → Steps j s (At Take w) (storedBy s w p r)
-unfolding W.step
+unfolding W.stepBy
 take-steps j s h w p r same some k =
     let wd : World = worldOf j s in
     let v : WindowView = windowAt w (playerOf (s .player)) in

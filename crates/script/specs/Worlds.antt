@@ -22,7 +22,7 @@ use Rattle.player.specs.declared.Player.{Player}
 use Rattle.player.specs.View.{playerOf}
 use Rattle.player.specs.FirstWindows.{firstWindows-length, firstWindows-at}
 use Rattle.delivery.specs.World.{Side, World, noSide, sideAt, numbersIn, playerIn, withView, withPlayer, withSide}
-use Rattle.delivery.specs.Worlds.{withWindows, withPlayer-window, withSide-here, withSide-twice}
+use Rattle.delivery.specs.Offers.{withWindows, withPlayer-window, withSide-here, withSide-twice}
 use Rattle.script.specs.declared.line.Line.{Line}
 use Rattle.script.specs.declared.Stage.{Stage}
 use Rattle.lists.specs.Cells.{front}

@@ -2,38 +2,20 @@
 use crate::Opened;
 use crate::Stage;
 use crate::line::Line;
-use journal::Index;
 use player::Player;
 use record::Record;
+use rules::Settings;
 use rules::Term;
-use window::Window;
 ghost use mathlib.Core.Path.{_≡_};
-ghost use mathlib.Core.List.{[]};
-ghost use Rattle.player.specs.Promise.{freshPlayer};
-ghost use Rattle.script.specs.Opening.{runFirst, openedBy};
-
-// A player with no windows.
-fn blank() -> Player
-    ensures { λ r. ⌜ r ≡ freshPlayer 0 0 0 0 runFirst [] ⌝ }
-{
-    let window = Window::started(Term(1), Index(0));
-    let windows = [window; 16];
-    Player {
-        count: 0,
-        limit: 0,
-        spacing: 0,
-        current: Index(0),
-        windows,
-    }
-}
+ghost use Rattle.script.specs.Opening.{openedBy};
 
 impl Stage {
-    // A stage after a first Start with so many windows, none of them silent, the batch limit 2, the spacing 65,535, the first term 1 and
-    // a report of 0 from each; not opened, and with no windows, where that is refused.
+    // A stage after a first Start with so many windows, none of them silent, the batch limit 2, the spacing 65,535, the
+    // first term 1 and a report of 0 from each; not opened, and with a blank player, where that is refused.
     pub fn open(journal: &[u32], count: u32) -> Opened
         ensures { λ r. ⌜ r ≡ openedBy (now (journal .entry)) count ⌝ }
     {
-        let player = blank();
+        let player = Player::blank();
         let record = Record::new();
         let records = [record; 16];
         let line = Line::new();
@@ -50,16 +32,13 @@ impl Stage {
         }
         let reports = [0; 16];
         let end = count as usize;
-        let played = operations::start_on(
-            player,
-            journal,
-            count,
-            2,
-            65535,
-            Term(1),
-            &reports[..end],
-            0,
-        );
+        let settings = Settings {
+            limit: 2,
+            spacing: 65535,
+            first: Term(1),
+            silent: 0,
+        };
+        let played = operations::start_on(player, journal, count, settings, &reports[..end]);
         let answer = played.answer;
         let next = played.player;
         let number = answer.number();

@@ -65,7 +65,8 @@ pub numberAfter-reads : (word : List ℕ) (bound n : ℕ) → n ≤ bound
     → numberAfter word bound (word ++ numeral n) ≡ Number n (length word + length (numeral n))
 unfolding numberAfter leadDigits
 numberAfter-reads word bound n h =
-    let r = read-at bound n (length word) (word ++ numeral n) [] h refl (drop-append-seam word (numeral n) ∙ sym (append-nil (numeral n))) in
+    let seam = drop-append-seam word (numeral n) ∙ sym (append-nil (numeral n)) in
+    let r = read-at bound n (length word) (word ++ numeral n) [] h refl seam in
     simp (take-append-seam word (numeral n), same-itself word, r, length-append, eq-eqb (length word + length (numeral n)) _ refl)
 
 -- what is read was written

@@ -15,8 +15,8 @@ use Rattle.script_line.specs.declared.Verb.the-variants.{Catch, Send, Drop, Joi
 use Rattle.script.specs.declared.Stage.{Stage}
 use Rattle.script.specs.declared.Reply.{Reply}
 use Rattle.script.specs.Stage.{stepsIn, replyOf, recordIn}
-use Rattle.script.specs.Opening.{runSpacing, runFirst, openingAnswer, openedBy}
-use Rattle.script.specs.Delivered.{Script, script-runs}
+use Rattle.script.specs.Opening.{runSettings, openingAnswer, openedBy}
+use Rattle.scripts.specs.Delivered.{Script, script-runs}
 
 -- the ten steps after `run`
 abbrev pub afternoonSteps : List Step
@@ -35,7 +35,7 @@ pub record PrintsA (replies : List W.Reply) (record0 record1 : Record) : Type 0 
 
 -- `windows 2` and the journal: the world that the stage is opened on, whatever a player held before
 abbrev pub afternoonWorld : PlayerView → World
-afternoonWorld before = firstWorld before afternoon 2 2 runSpacing runFirst 0
+afternoonWorld before = firstWorld before afternoon 2 runSettings
 
 -- by the rules
 abbrev pub RunA : PlayerView → Type 0

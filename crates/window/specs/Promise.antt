@@ -57,13 +57,13 @@ windowAtStart first acked sent condition = record {
 }
 
 -- one that has a report is Normal, acknowledged and sent the report
-abbrev pub freshWindow : Term → ℕ → Window
-freshWindow first r = windowAtStart first (record { 0 = r }) (record { 0 = r }) Normal
+abbrev pub startedWindow : Term → ℕ → Window
+startedWindow first r = windowAtStart first (record { 0 = r }) (record { 0 = r }) Normal
 
 -- a silent one is Suspended, acknowledged 0 and sent L
 abbrev pub silentWindow : Term → ℕ → Window
 silentWindow first l = windowAtStart first (record { 0 = 0 }) (record { 0 = l }) Held.Suspended
 
-abbrev pub windowBy : Term → ℕ → Report → Window
-windowBy first l (told r) = freshWindow first r
-windowBy first l silence = silentWindow first l
+abbrev pub startedWindowBy : Term → ℕ → Report → Window
+startedWindowBy first l (told r) = startedWindow first r
+startedWindowBy first l silence = silentWindow first l

@@ -1,4 +1,5 @@
-// What the operations at one window share: a change of condition, whether the line is dropped, what they ask first, and a refusal.
+// What the operations at one window share: a change of condition, whether the line is dropped, what they ask first, and
+// a refusal.
 use crate::Answer;
 use crate::Condition;
 use crate::Head;
@@ -14,7 +15,15 @@ ghost use Rattle.window.specs.Admission.{admitted};
 impl Head {
     // The head with another condition.
     pub fn with_condition(self, condition: Condition) -> Head
-        ensures { λ r. ⌜ r ≡ record { term = self .term; acked = self .acked; sent = self .sent; busy = self .busy; batches = self .batches; condition = condition } ⌝ }
+        ensures { λ r.
+            ⌜ r ≡ record {
+              term = self .term;
+              acked = self .acked;
+              sent = self .sent;
+              busy = self .busy;
+              batches = self .batches;
+              condition = condition;
+            } ⌝ }
     {
         let batches = self.batches;
         let term = self.term;

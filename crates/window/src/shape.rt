@@ -1,5 +1,5 @@
-// The shape of one window: its lengths, the indices that it holds, and its queues beside its condition; and what a batch limit and a
-// spacing may be.
+// The shape of one window: its lengths, the indices that it holds, and its queues beside its condition; and what a
+// batch limit and a spacing may be.
 use crate::Condition;
 use crate::Window;
 use journal::Index;
@@ -38,7 +38,9 @@ pub fn spacing_fits(spacing: u32) -> bool
 impl Condition {
     // Whether what is still to be fetched is within l and `current`, and its next is 1 to its end.
     fn spans(next: Index, end: Index, l: u32, current: Index) -> bool
-        ensures { λ r. ⌜ r ≡ ((leb (next .0) l && leb (end .0) l) && ((leb 1 (next .0) && leb (next .0) (end .0)) && leb (end .0) (current .0))) ⌝ }
+        ensures { λ r.
+            ⌜ r ≡ ((leb (next .0) l && leb (end .0) l)
+            && ((leb 1 (next .0) && leb (next .0) (end .0)) && leb (end .0) (current .0))) ⌝ }
     {
         if l < next.0 {
             return false;
@@ -55,9 +57,12 @@ impl Condition {
         end.0 <= current.0
     }
 
-    // Whether the indices that a condition carries are at most l, a next is 1 to its end, and an end is at most `current`.
+    // Whether the indices that a condition carries are at most l, a next is 1 to its end, and an end is at most
+    // `current`.
     fn in_shape(self, l: u32, current: Index) -> bool
-        ensures { λ r. ⌜ r ≡ (conditionHeld l (conditionOf self) && (nextFits (conditionOf self) && endFits (current .0) (conditionOf self))) ⌝ }
+        ensures { λ r.
+            ⌜ r ≡ (conditionHeld l (conditionOf self)
+            && (nextFits (conditionOf self) && endFits (current .0) (conditionOf self))) ⌝ }
     {
         match self {
             Condition::Normal => true,
@@ -91,10 +96,12 @@ impl Window {
         batches.size() <= 8
     }
 
-    // Whether the queues suit the condition: a catch-up queue is empty in Normal and not empty in Completed, and in Suspended nothing is
-    // queued or unacknowledged.
+    // Whether the queues suit the condition: a catch-up queue is empty in Normal and not empty in Completed, and in
+    // Suspended nothing is queued or unacknowledged.
     fn queues_suit(self) -> bool
-        ensures { λ r. ⌜ r ≡ (catchUpFits (viewOf self .condition) (viewOf self .catchQueue) && suspendedFits (viewOf self) (viewOf self .condition)) ⌝ }
+        ensures { λ r.
+            ⌜ r ≡ (catchUpFits (viewOf self .condition) (viewOf self .catchQueue)
+            && suspendedFits (viewOf self) (viewOf self .condition)) ⌝ }
     {
         let head = self.head;
         let condition = head.condition;
@@ -119,7 +126,10 @@ impl Window {
 
     // Whether the acknowledged index, the sent index and the last indices of at most 8 batches are at most l.
     fn holds(self, l: u32) -> bool
-        ensures { λ r. ⌜ r ≡ (leb (viewOf self .acked) l && (leb (viewOf self .sent) l && (leb (length (viewOf self .batches)) 8 && all (heldIn l) (viewOf self .batches)))) ⌝ }
+        ensures { λ r.
+            ⌜ r ≡ (leb (viewOf self .acked) l
+            && (leb (viewOf self .sent) l
+            && (leb (length (viewOf self .batches)) 8 && all (heldIn l) (viewOf self .batches)))) ⌝ }
     {
         let head = self.head;
         let batches = head.batches;

@@ -33,7 +33,8 @@ fn is_behind(sent: Index, spacing: u32, index: Index) -> bool
     sent.0 <= index.0 - spacing
 }
 
-// Whether this window is quiet: Normal, both queues empty, no batch unacknowledged, the line free, and sent so far behind.
+// Whether this window is quiet: Normal, both queues empty, no batch unacknowledged, the line free, and sent so far
+// behind.
 fn is_quiet(window: Window, spacing: u32, index: Index) -> bool
     ensures { λ r. ⌜ r ≡ isQuiet spacing (index .0) (viewOf window) ⌝ }
 {

@@ -82,7 +82,7 @@ pub record Sends (limit size : ℕ) (v : WindowView) : Type 0 where
 pub sendTurn-done : (limit size : ℕ) (v : WindowView) → sendTurn limit size v .answer ≡ 0 → Sends limit size v
 unfolding sendTurn
 sendTurn-done limit size v e =
-    let p = check-passed (not (sendGuard limit v)) 0 v (sendAt limit size v) e in
+    let p = check-passed (not (sendGuard limit v)) 1 refl v (sendAt limit size v) e in
     let s : SentOut limit size v = sendAt-done limit size v (p .rest) in
     let l = shares-limit limit v in
     let n : 1 ≤ caughtOf limit v + queuedOf limit v = going (caughtOf limit v + queuedOf limit v) refl (s .some) in

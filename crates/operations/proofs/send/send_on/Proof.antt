@@ -1,9 +1,8 @@
--- The loop's invariant: the numbers fit, and the windows before `next` are in shape. The window's Send is stored, and its output is the rule's.
+-- The loop's invariant: the numbers fit, and the windows before `next` are in shape. The window's Send is stored, and its output is the
+-- rule's.
 use Prim.Native.Nat.{_-_}
-use mathlib.Core.Path.{sym, _∙_}
 use native.Mathlib.Omega.{arith}
 use borrow.Author.Needs.{needs}
-use borrow.Author.Tests.{not-true, not-false}
 use Rattle.player.specs.Tested.{Tested, tested-unfit, tested-fit, tested-out, tested-more, tested-all}
 use Rattle.player.proofs.Sixteen.{windows-length}
 use Rattle.operations.proofs.Operate.{reaches}
@@ -18,13 +17,15 @@ abbrev μ-loop : tie.MeasureT-loop
 μ-loop journal w out player count current l end next₀ next = count - next
 
 -- the first test passed
-fit : (c : tie.Else1 Inv-loop μ-loop) → let args = c .before .before .before .before .before .args in Tested (args .journal .now) (args .t1) 0
+fit : (c : tie.Else1 Inv-loop μ-loop) →
+    let args = c .before .before .before .before .before .args in
+    Tested (args .journal .now) (args .t1) 0
 fit c =
     let start = c .before .before .before .before .before in
-    tested-fit _ _ (windows-length (start .args .t1) _ (start .good .0)) (sym (c .before .numbers-fit .ensures) ∙ not-false _ (c .if1 .left))
+    tested-fit _ _ (c .before .numbers-fit .ensures) (windows-length (start .args .t1) _ (start .good .0)) (c .if1 .left)
 
 returns : tie.Need-returns Inv-loop μ-loop
-returns c = send-shapeless _ _ _ _ (tested-unfit _ _ (sym (c .before .numbers-fit .ensures) ∙ not-true _ (c .if1 .taken)))
+returns c = send-shapeless _ _ _ _ (tested-unfit _ _ (c .before .numbers-fit .ensures) (c .if1 .taken))
 
 cast-l : tie.Need-cast-l Inv-loop μ-loop
 cast-l c =
@@ -40,14 +41,14 @@ returns-2 c =
     let at = turn .before .before .before in
     send-shapeless _ _ _ _
     (tested-out (at .loop .inv) (turn .before .before .loop-test .taken) (at .before .entries .ensures) _ (turn .in-shape .ensures)
-    (not-true _ (c .if2 .taken)))
+    (c .if2 .taken))
 
 loop-again : tie.Need-loop-again Inv-loop μ-loop
 loop-again c =
     let turn = c .before in
     let at = turn .before .before .before in
     tested-more (at .loop .inv) (turn .before .before .loop-test .taken) (at .before .entries .ensures) _ (turn .in-shape .ensures)
-    (not-false _ (c .if2 .left))
+    (c .if2 .left)
 
 returns-3 : tie.Need-returns-3 Inv-loop μ-loop
 returns-3 c = send-absent _ _ _ _ (tested-all (c .before .before .loop .inv) (c .before .loop-test .left)) (c .if3 .taken)

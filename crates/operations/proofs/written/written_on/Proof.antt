@@ -1,9 +1,7 @@
 -- The loop's invariant: the numbers fit, and the windows before `next` are in shape. The window's Written is stored.
 use Prim.Native.Nat.{_-_}
-use mathlib.Core.Path.{sym, _∙_}
 use native.Mathlib.Omega.{arith}
 use borrow.Author.Needs.{needs}
-use borrow.Author.Tests.{not-true, not-false}
 use Rattle.rules.specs.Rules.{writtenRule}
 use Rattle.player.specs.Tested.{Tested, tested-unfit, tested-fit, tested-out, tested-more, tested-all}
 use Rattle.player.proofs.Sixteen.{windows-length}
@@ -21,11 +19,11 @@ abbrev μ-loop : tie.MeasureT-loop
 fit : (c : tie.Else1 Inv-loop μ-loop) → let args = c .before .before .before .before .args in Tested (args .journal .now) (args .t1) 0
 fit c =
     let start = c .before .before .before .before in
-    tested-fit _ _ (windows-length (start .args .t1) _ (start .good .0)) (sym (c .before .numbers-fit .ensures) ∙ not-false _ (c .if1 .left))
+    tested-fit _ _ (c .before .numbers-fit .ensures) (windows-length (start .args .t1) _ (start .good .0)) (c .if1 .left)
 
 returns : tie.Need-returns Inv-loop μ-loop
 unfolding writtenRule
-returns c = operate-shapeless _ _ _ _ (tested-unfit _ _ (sym (c .before .numbers-fit .ensures) ∙ not-true _ (c .if1 .taken)))
+returns c = operate-shapeless _ _ _ _ (tested-unfit _ _ (c .before .numbers-fit .ensures) (c .if1 .taken))
 
 cast-l : tie.Need-cast-l Inv-loop μ-loop
 cast-l c =
@@ -42,14 +40,14 @@ returns-2 c =
     let at = turn .before .before .before in
     operate-shapeless _ _ _ _
     (tested-out (at .loop .inv) (turn .before .before .loop-test .taken) (at .before .entries .ensures) _ (turn .in-shape .ensures)
-    (not-true _ (c .if2 .taken)))
+    (c .if2 .taken))
 
 loop-again : tie.Need-loop-again Inv-loop μ-loop
 loop-again c =
     let turn = c .before in
     let at = turn .before .before .before in
     tested-more (at .loop .inv) (turn .before .before .loop-test .taken) (at .before .entries .ensures) _ (turn .in-shape .ensures)
-    (not-false _ (c .if2 .left))
+    (c .if2 .left)
 
 returns-3 : tie.Need-returns-3 Inv-loop μ-loop
 unfolding writtenRule
@@ -59,7 +57,8 @@ returns-4 : tie.Need-returns-4 Inv-loop μ-loop
 unfolding writtenRule
 returns-4 c =
     let own = c .before .before .before in
-    operate-turn (reaches (own .before .before .loop .inv) (own .before .loop-test .left) (own .if3 .left)) _ _ _ (c .before .written-at .ensures)
+    operate-turn (reaches (own .before .before .loop .inv) (own .before .loop-test .left) (own .if3 .left)) _ _ _
+    (c .before .written-at .ensures)
 
 pub written-on-spec : {M : Type 1} → statement M
 written-on-spec =

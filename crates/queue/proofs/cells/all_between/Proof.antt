@@ -50,12 +50,13 @@ loop-again c =
     let i = at .loop .i in
     let x = getD cells i 0 in
     let fits : x ≤ 65535 = omega (arith, at .before .before .shared-slice-known .given i) in
+    let each = at .loop .each in
     let bound : c .before .is-between .result ≡ test x
     = c .before .is-between .ensures ∙ ap (λ t. between (args .low) t x) (at .before .as-cell .ensures) ∙ between-cell _ _ x fits in (
       omega arith,
       ⊎-elim
-          (λ w. rw (w .1) (tested-failed test (args .n) cells i here (at .loop .each) (sym bound ∙ not-true _ (w .0 .taken)) ∙ at .loop .inv .1))
-          (λ w. rw (w .1) (tested-passed test (args .n) cells i here (at .loop .each) (sym bound ∙ not-false _ (w .0 .left)) ∙ at .loop .inv .1))
+          (λ w. rw (w .1) (tested-failed test (args .n) cells i here each (sym bound ∙ not-true _ (w .0 .taken)) ∙ at .loop .inv .1))
+          (λ w. rw (w .1) (tested-passed test (args .n) cells i here each (sym bound ∙ not-false _ (w .0 .left)) ∙ at .loop .inv .1))
           (c .if1 .came),
     )
 

@@ -52,7 +52,8 @@ loop-less c = search needs
 
 loop-again : tie.Need-loop-again Inv-loop μ-loop
 loop-again c =
-    let lt : c .before .before .loop .to + c .before .before .before .before .args .k < length (c .before .before .before .before .args .cells .now) = omega arith in (
+    let args = c .before .before .before .before .args in
+    let lt : c .before .before .loop .to + args .k < length (args .cells .now) = omega arith in (
       search needs,
       search needs,
       rw (c .before .before .loop .inv .2, moved-getD _ _ _ (le-of-lt lt), add-one, moved-turn _ _ _ _ lt),

@@ -1,7 +1,7 @@
 -- A step that is answered early leaves the stage as it was, and so does a refused call; any other is what its call and its window give.
 use Prim.Native.Nat.{ℕ, _≤_, _<_}
 use mathlib.Core.Path.{_≡_, refl, sym, _∙_}
-use mathlib.Core.Logic.{⊎-elim}
+use mathlib.Core.Logic.{⊎-elim, inl, inr}
 use mathlib.Core.List.{List}
 use native.Mathlib.Omega.{arith}
 use Rattle.script_line.specs.declared.Step.{Step}
@@ -52,7 +52,7 @@ read c = c .before .before .before .before
 on : (c : tie.At-match2-came) → GoesOn (numbers (read c)) (stage (read c)) (asked (read c)) (read c .if1 .slot) (slotted (read c))
 on c =
     early-none (numbers (read c)) (stage (read c)) (asked (read c)) (read c .if1 .slot) (slotted (read c))
-    (sym (c .before .before .before .early .ensures) ∙ c .before .enum-told .given .1)
+    (c .before .before .before .early .ensures) (c .before .enum-told .given .1)
 
 few : (c : tie.At-match2-came) → stage (read c) .player .count ≤ 16
 few c = playable-facts (numbers (read c)) (stage (read c)) (asked (read c)) (on c .can) .room .few
@@ -68,15 +68,19 @@ called c =
     let ns = numbers (read c) in
     let p = stage (read c) .player in
     let x = read c .if1 .slot in
-    ⊎-elim (λ k. made-main ns p x (k .1 .given .1) (k .5) (k .7) (k .6) (rw (k .3 .ensures) at (k .4 .ensures)))
-    (⊎-elim (λ k. made-at ns p x (k .1 .given .1) (k .4 .given .1) (k .6) (k .8) (k .7) (k .5 .ensures) refl)
-    (⊎-elim (λ k. made-at ns p x (k .1 .given .1) (k .4 .given .1) (k .8) (k .10) (k .9) (k .6 .ensures .0) (k .6 .ensures .1))
-    (⊎-elim (λ k. made-at ns p x (k .1 .given .1) (k .4 .given .1) (k .6) (k .8) (k .7) (k .5 .ensures) refl)
-    (⊎-elim (λ k. made-at ns p x (k .1 .given .1) (k .4 .given .1) (k .6) (k .8) (k .7) (k .5 .ensures) refl)
-    (⊎-elim (λ k. made-at ns p x (k .1 .given .1) (k .4 .given .1) (k .6) (k .8) (k .7) (k .5 .ensures) refl)
-    (⊎-elim (λ k. made-at ns p x (k .1 .given .1) (k .4 .given .1) (k .6) (k .8) (k .7) (k .5 .ensures) refl)
-    (λ k. made-at ns p x (k .1 .given .1) (k .4 .given .1) (k .5) (k .7) (k .6) (unasked p _ refl refl) refl)))))))
-    (c .match2 .came)
+    elim (c .match2 .came) [
+      | inl k ↦ made-main ns p x (k .1 .given .1) (k .5) (k .7) (k .6) (rw (k .3 .ensures) at (k .4 .ensures))
+      | inr (inl k) ↦ made-at ns p x (k .1 .given .1) (k .4 .given .1) (k .6) (k .8) (k .7) (k .5 .ensures) refl
+      | inr (inr (inl k)) ↦
+          made-at ns p x (k .1 .given .1) (k .4 .given .1) (k .8) (k .10) (k .9) (k .6 .ensures .0) (k .6 .ensures .1)
+      | inr (inr (inr (inl k))) ↦ made-at ns p x (k .1 .given .1) (k .4 .given .1) (k .6) (k .8) (k .7) (k .5 .ensures) refl
+      | inr (inr (inr (inr (inl k)))) ↦ made-at ns p x (k .1 .given .1) (k .4 .given .1) (k .6) (k .8) (k .7) (k .5 .ensures) refl
+      | inr (inr (inr (inr (inr (inl k))))) ↦ made-at ns p x (k .1 .given .1) (k .4 .given .1) (k .6) (k .8) (k .7) (k .5 .ensures) refl
+      | inr (inr (inr (inr (inr (inr (inl k)))))) ↦
+          made-at ns p x (k .1 .given .1) (k .4 .given .1) (k .6) (k .8) (k .7) (k .5 .ensures) refl
+      | inr (inr (inr (inr (inr (inr (inr k)))))) ↦
+          made-at ns p x (k .1 .given .1) (k .4 .given .1) (k .5) (k .7) (k .6) (unasked p _ refl refl) refl
+    ]
 
 -- a step answered 0 is at a window that is there
 within : (c : tie.Else2) → windowOf (asked (read (c .before .before))) < stage (read (c .before .before)) .player .count
@@ -134,7 +138,7 @@ returns c =
     let is = start at .good .0 in
     early-plays (numbers at) (stage at) (asked at) (at .if1 .slot) (slotted at) _
     (records-length (stage at) _ is) (lines-length (stage at) _ is)
-    (sym (c .before .before .before .early .ensures) ∙ c .before .reply .given .1)
+    (c .before .before .before .early .ensures) (c .before .reply .given .1)
 
 enum-told : tie.Need-enum-told
 enum-told c = search needs

@@ -26,12 +26,14 @@ none-queued c =
 none-fetched : (c : tie.Else3) → isEmpty (viewOf (start (c .before .before .before .before) .args .window) .catchQueue) ≡ true
 unfolding viewOf
 none-fetched c =
-    isEmpty-yes (viewOf (start (c .before .before .before .before) .args .window) .catchQueue) (sym (c .before .size2 .ensures) ∙ c .if3 .left)
+    isEmpty-yes (viewOf (start (c .before .before .before .before) .args .window) .catchQueue)
+    (sym (c .before .size2 .ensures) ∙ c .if3 .left)
 
 none-out : (c : tie.Else4) → isEmpty (viewOf (start (c .before .before .before .before .before .before) .args .window) .batches) ≡ true
 unfolding viewOf
 none-out c =
-    isEmpty-yes (viewOf (start (c .before .before .before .before .before .before) .args .window) .batches) (sym (c .before .size3 .ensures) ∙ c .if4 .left)
+    isEmpty-yes (viewOf (start (c .before .before .before .before .before .before) .args .window) .batches)
+    (sym (c .before .size3 .ensures) ∙ c .if4 .left)
 
 is-normal-requires : tie.Need-is-normal-requires
 is-normal-requires c κs = search needs
@@ -47,7 +49,8 @@ returns-2 : tie.Need-returns-2
 unfolding viewOf
 returns-2 c =
     let first = c .before .before in
-    and-on (normal-here first) (and-off _ (isEmpty-no (viewOf (start first .args .window) .normalQueue) (λ e. c .if2 .taken (c .before .size .ensures ∙ e))))
+    and-on (normal-here first)
+    (and-off _ (isEmpty-no (viewOf (start first .args .window) .normalQueue) (λ e. c .if2 .taken (c .before .size .ensures ∙ e))))
 
 size-requires-2 : tie.Need-size-requires-2
 size-requires-2 c κs = search needs
@@ -58,7 +61,8 @@ returns-3 c =
     let second = c .before .before in
     let first = second .before .before in
     and-on (normal-here first)
-    (and-on (none-queued second) (and-off _ (isEmpty-no (viewOf (start first .args .window) .catchQueue) (λ e. c .if3 .taken (c .before .size2 .ensures ∙ e)))))
+    (and-on (none-queued second)
+    (and-off _ (isEmpty-no (viewOf (start first .args .window) .catchQueue) (λ e. c .if3 .taken (c .before .size2 .ensures ∙ e)))))
 
 size-requires-3 : tie.Need-size-requires-3
 size-requires-3 c κs = search needs
@@ -71,7 +75,8 @@ returns-4 c =
     let first = second .before .before in
     and-on (normal-here first)
     (and-on (none-queued second)
-    (and-on (none-fetched third) (and-off _ (isEmpty-no (viewOf (start first .args .window) .batches) (λ e. c .if4 .taken (c .before .size3 .ensures ∙ e))))))
+    (and-on (none-fetched third)
+    (and-off _ (isEmpty-no (viewOf (start first .args .window) .batches) (λ e. c .if4 .taken (c .before .size3 .ensures ∙ e))))))
 
 returns-5 : tie.Need-returns-5
 unfolding viewOf

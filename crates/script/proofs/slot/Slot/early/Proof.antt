@@ -1,6 +1,6 @@
 -- The tests in a row are the definition's.
 use mathlib.Core.Path.{_≡_, sym, _∙_}
-use mathlib.Core.Logic.{⊎-elim}
+use mathlib.Core.Logic.{inl, inr}
 use mathlib.Core.Bool.{true, false, _&&_}
 use borrow.Author.Tests.{le-leb, lt-leb, ltb-true, ltb-false, not-true, not-false}
 use lib.Dec.{leb}
@@ -34,11 +34,12 @@ returns c =
     let args = c .before .before .before .args in
     let is = c .before .in-shape .ensures in
     let stuck : false ≡ (inShape (args .journal .now) && (leb (args .count) 16 && hasRoom (args .self))) =
-    ⊎-elim (λ x. and-failed _ is (x .taken))
-    (⊎-elim (λ x. and-passed is (x .0 .left) (and-off _ (lt-leb (args .count) 16 (ltb-true 16 (args .count) (x .1 .taken)))))
-    (λ x. and-passed is (x .0 .left) (and-on (le-leb (args .count) 16 (ltb-false 16 (args .count) (x .1 .left)))
-    (sym (not-true _ (x .3 .taken)) ∙ x .2 .ensures))))
-    (c .if1 .came) in
+    elim (c .if1 .came) [
+      | inl x ↦ and-failed _ is (x .taken)
+      | inr (inl x) ↦ and-passed is (x .0 .left) (and-off _ (lt-leb (args .count) 16 (ltb-true 16 (args .count) (x .1 .taken))))
+      | inr (inr x) ↦ and-passed is (x .0 .left) (and-on (le-leb (args .count) 16 (ltb-false 16 (args .count) (x .1 .left)))
+          (sym (not-true _ (x .3 .taken)) ∙ x .2 .ensures))
+    ] in
     rw (sym stuck)
 
 lacks-requires : tie.Need-lacks-requires
