@@ -1,4 +1,6 @@
 // One decimal numeral, read from a place of a text and written to a place of a buffer.
+#![tactic(auto)]
+
 ghost use Rattle.std.specs.Prelude.{◌-◌, ◌≤◌, ◌≡◌, length};
 ghost use Rattle.decimal.specs.Numeral.{numeral, read_at, write_at, with_numeral};
 ghost use Rattle.decimal.specs.Digit.{DigitAt};

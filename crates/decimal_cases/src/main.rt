@@ -7,6 +7,8 @@
 // | `r` | the number read from the text at a place, up to a bound, with the place after it |
 // | `d` | how many digits a number has |
 // | `w` | the place after a number that is written to a buffer of a size at a place, and the buffer |
+#![tactic(auto)]
+
 mod bench;
 mod show;
 

@@ -1,4 +1,6 @@
 // Prints what the functions of `journal` answer at the edges of their ranges, a line for each case.
+#![tactic(auto)]
+
 ghost use Rattle.std.specs.Prelude.{◌≡◌, length};
 
 use journal::Index;

@@ -11,6 +11,8 @@
 // | `n` | stores the numbers that the text shows | `e` | the first so many numbers, four to a line |
 // | `j` | stores at a place a number | `w` | what writing the first so many numbers over so many bytes of the text answers |
 // | `f` | fills the journal with notes to window 0 | `k` | whether writing the first so many numbers elsewhere gives the text |
+#![tactic(auto)]
+
 mod calls;
 mod input;
 mod numbers;

@@ -1,1 +1,2 @@
 // Lists and tests: definitions and laws in specs/ that several crates share, and no code.
+#![tactic(auto)]

@@ -2,6 +2,8 @@
 // a journal of so many entries and plays it to W windows in batches of at most LIMIT; the line of every fifth batch
 // drops. Then it prints what each window has taken, and the number of calls. No contract can speak of what is printed,
 // so the functions here promise only that they are safe and end.
+#![tactic(auto)]
+
 mod arguments;
 mod entries;
 mod host;

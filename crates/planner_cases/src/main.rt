@@ -1,4 +1,6 @@
 // Cases of the planner, a line each: the edges of every range of document 02, W4, and the order of its refusals.
+#![tactic(auto)]
+
 ghost use Rattle.std.specs.Prelude.{◌≡◌, length};
 
 use journal::Index;

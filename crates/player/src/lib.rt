@@ -1,4 +1,6 @@
 // The player's state: the windows that it holds, up to sixteen, its shape, and a blank one.
+#![tactic(auto)]
+
 mod shape;
 
 ghost use Rattle.std.specs.Prelude.{◌≡◌};

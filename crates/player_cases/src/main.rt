@@ -22,6 +22,8 @@
 // | `u` | one more batch | `L`, `E` | W and the batch limit; the spacing |
 // | `n`, `g` | normal, catch-up queue: an index in every cell, how many | `V` | a window, with the sizes of its queues |
 // | `p`, `q` | one more index in it | `U` | a window, with its batches and the first three indices of its queues |
+#![tactic(auto)]
+
 mod ask;
 mod bench;
 mod line;

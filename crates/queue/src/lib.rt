@@ -1,4 +1,6 @@
 // Bounded queues by value: up to 128 indices in cells of 16 bits, and up to 8 last indices of batches.
+#![tactic(auto)]
+
 mod cells;
 mod ends;
 mod indices;

@@ -11,6 +11,8 @@
 // | `f` | the constant of each | | |
 // | `u` | pushes of 1 up to the number | | |
 // | `h` | handed in: the number before this one in every cell, or 0 where none can hold it, and this one as length | | |
+#![tactic(auto)]
+
 mod bench;
 mod show;
 

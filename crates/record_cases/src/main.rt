@@ -1,4 +1,6 @@
 // Cases of Take and May stamp, a line each: the edges of every range of document 01, "The window".
+#![tactic(auto)]
+
 use journal::{Entry, Index};
 use record::{Race, Record, Taken};
 

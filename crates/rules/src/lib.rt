@@ -1,4 +1,5 @@
 // The rules of the player: definitions and laws in specs/, and no code.
+#![tactic(auto)]
 
 // Which connection of a window: a count of its connections.
 #[derive(Drop)]

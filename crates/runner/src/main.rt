@@ -2,6 +2,8 @@
 // answers to standard output. What a line says is in `script_line`, what a journal text says in `journal_text`, and what
 // a step does in `script`. No contract can speak of what is read or written, so most functions here promise only that
 // they are safe and end.
+#![tactic(auto)]
+
 mod input;
 mod output;
 mod play;

@@ -1,4 +1,6 @@
 // A run by script: the player, the windows' records and the lines between them, by value, and one step at a time.
+#![tactic(auto)]
+
 mod early;
 mod line;
 mod open;

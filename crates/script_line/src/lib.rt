@@ -1,4 +1,6 @@
 // The lines of a script beside the journal: `windows` and a count, `run`, and the steps. A line is given without its LF.
+#![tactic(auto)]
+
 ghost use Rattle.std.specs.Prelude.{◌≡◌, length, take};
 ghost use Rattle.script_line.specs.Line.{same, whole, number_after, step_or, step_of, windows_of, run_word};
 
