@@ -8,7 +8,7 @@ use Rattle.rules.specs.declared.Settings.{Settings}
 use Rattle.rules.specs.declared.Term.{Term}
 use Rattle.rules.specs.View.{PlayerView}
 use Rattle.rules.specs.Rules.{main_rule, catch_rule, written_rule, ack_rule, drop_rule, join_rule, send_rule, start_rule}
-use Rattle.rules.specs.Offers.{start_rule-refusals, main_rule-refusals, catch_rule-refusals, send_rule-refusals, written_rule-refusals, ack_rule-refusals, drop_rule-refusals, join_rule-refusals}
+use Rattle.rules.proofs.Offers.{start_rule-refusals, main_rule-refusals, catch_rule-refusals, send_rule-refusals, written_rule-refusals, ack_rule-refusals, drop_rule-refusals, join_rule-refusals}
 use Rattle.window.specs.declared.Answer.{Answer}
 use Rattle.window.specs.declared.Answer.TheVariants.{Done, OutOfShape, NoSuchWindow, Suspended, NothingToRead, OtherTerm, OtherIndex, NothingReady, LineState, TooManyBatches, CatchUpFull, BadAck, NotSuspended, BadReport, LastTerm, OutputTooShort, BadSpacing}
 use Rattle.window.specs.Promise.{number_of}

@@ -3,3 +3,7 @@ mod Stepping
 mod Answering
 mod Passing
 mod Putting
+pub mod AnswerLaws
+pub mod RoundTrip
+pub mod CleanLaws
+pub mod OldFiles

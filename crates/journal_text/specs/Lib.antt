@@ -5,10 +5,6 @@ pub mod Scan
 pub mod LineLaws
 pub mod ScanLaws
 pub mod Answers
-pub mod AnswerLaws
 pub mod Laws
-pub mod RoundTrip
 pub mod Clean
-pub mod CleanLaws
-pub mod OldFiles
 pub mod Put

@@ -21,7 +21,7 @@ use Rattle.rules.specs.declared.Settings.{Settings}
 use Rattle.rules.specs.Shape.{count_fits, limit_fits, spacing_fits}
 use Rattle.rules.specs.Window.{Report}
 use Rattle.rules.specs.Rules.{refuse, said, is_start_report, first_fits, start_fits, start_rule}
-use Rattle.rules.specs.Offers.{reports-le}
+use Rattle.rules.proofs.Offers.{reports-le}
 use Rattle.player.specs.Promise.{fresh_windows, fresh_player, Starts}
 use Rattle.window.specs.Promise.{number_of}
 use Rattle.operations.specs.Starting.{lowest, lowest-least, fresh_player-shown}

@@ -12,7 +12,7 @@ use Rattle.rules.specs.declared.Term.{Term}
 use Rattle.rules.specs.declared.Settings.{Settings}
 use Rattle.rules.specs.Window.{Report, told, silence, started_by}
 use Rattle.rules.specs.Rules.{said_by, said, is_start_report, spoken, least}
-use Rattle.rules.specs.Offers.{start_next, said-length, said_at}
+use Rattle.rules.proofs.Offers.{start_next, said-length, said_at}
 
 -- ------------------------------------------------------------------------
 -- said

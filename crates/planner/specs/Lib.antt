@@ -1,6 +1,3 @@
 -- What a window will still need: the figures, and that no way of cutting the entries into batches needs fewer.
 pub mod Plan
-pub mod PlanLaws
 pub mod Cutting
-pub mod Least
-pub mod Examples

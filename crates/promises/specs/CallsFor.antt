@@ -11,7 +11,7 @@ use Rattle.journal.specs.Entry.{count_of}
 use Rattle.rules.specs.declared.Settings.{Settings}
 use Rattle.rules.specs.declared.Term.{Term}
 use Rattle.rules.specs.Rules.{Outcome, start_rule}
-use Rattle.rules.specs.Offers.{start_rule-done, start_rule-refuses}
+use Rattle.rules.proofs.Offers.{start_rule-done, start_rule-refuses}
 use Rattle.player.specs.declared.Player.{Player}
 use Rattle.player.specs.declared.Played.{Played}
 use Rattle.player.specs.View.{player_of}
@@ -19,12 +19,12 @@ use Rattle.player.specs.Promise.{fresh_player, Starts}
 use Rattle.operations.specs.Starting.{fresh_player-shown}
 use Rattle.delivery.specs.World.{World, Step, Reply, answered, empty, unmade, is_new, step}
 use Rattle.delivery.specs.World as W
-use Rattle.delivery.specs.Offers.{Reached, count-in, reached-step}
+use Rattle.delivery.proofs.Offers.{Reached, count-in, reached-step}
 use Rattle.calls.specs.Host.{Host, Call, start, call_step, report_of, is_late, MadeAll, after}
-use Rattle.calls.specs.Shows.{Shows, shows-late}
-use Rattle.calls.specs.Runs.{follows}
+use Rattle.calls.proofs.Shows.{Shows, shows-late}
+use Rattle.calls.proofs.Runs.{follows}
 use Rattle.calls.specs.Answers.{start-numbered}
-use Rattle.calls.specs.CallFor.{CallFor, call-main, call-catch, call-written, call-send, call-take, call-ack, call-late, call-drop, call-join, call-append}
+use Rattle.calls.proofs.CallFor.{CallFor, call-main, call-catch, call-written, call-send, call-take, call-ack, call-late, call-drop, call-join, call-append}
 
 -- ------------------------------------------------------------------------
 -- Start

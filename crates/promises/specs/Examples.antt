@@ -14,15 +14,15 @@ use Rattle.player.specs.View.{first_windows, player_of}
 use Rattle.player.specs.Promise.{fresh_windows, fresh_player}
 use Rattle.delivery.specs.World.{World, side_at, Step, main, catch, written, send, take, ack, late-ack, drop, join, start, append, answered, run, replies}
 use Rattle.delivery.specs.Statement.{new_reports, first_start, first_world}
-use Rattle.delivery.specs.Examples.{computed, done, chosen, term, room}
-use Rattle.delivery.specs.Offers.{opened-reached}
+use Rattle.delivery.proofs.Examples.{computed, done, chosen, term, room}
+use Rattle.delivery.proofs.Offers.{opened-reached}
 use Rattle.calls.specs.Host.{Host, end_at, Call, call_step, MadeAll, batch_in, host_after, opened}
 use Rattle.calls.specs.Statement.{Leading, Delivers, FirstStart}
 use Rattle.calls.specs.Counts.{Counts}
-use Rattle.calls.specs.Shows.{end_of, shows-end}
-use Rattle.calls.specs.Runs.{host_after-shows}
-use Rattle.calls.specs.Demand3Calls.{opened-shows, demand-3-calls}
-use Rattle.calls.specs.ExactCountsCalls.{exact-counts-calls}
+use Rattle.calls.proofs.Shows.{end_of, shows-end}
+use Rattle.calls.proofs.Runs.{host_after-shows}
+use Rattle.calls.proofs.Demand3Calls.{opened-shows, demand-3-calls}
+use Rattle.calls.proofs.ExactCountsCalls.{exact-counts-calls}
 use Rattle.promises.specs.CallsFor.{all_made, CallsFor, calls-for}
 
 -- the batch in an output of ten numbers, of which Send has written the first five

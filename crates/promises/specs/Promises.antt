@@ -20,7 +20,7 @@ use Rattle.record.specs.declared.Taken.{Taken}
 use Rattle.rules.specs.declared.Settings.{Settings}
 use Rattle.rules.specs.Window.{Report}
 use Rattle.rules.specs.Rules.{speaks, spoken, least, start_rule}
-use Rattle.rules.specs.Offers.{said-unread, start_rule-unread}
+use Rattle.rules.proofs.Offers.{said-unread, start_rule-unread}
 use Rattle.player.specs.declared.Player.{Player}
 use Rattle.player.specs.declared.Played.{Played}
 use Rattle.player.specs.View.{player_of}

@@ -8,7 +8,7 @@ use lib.Seq.{append_snoc, drop-set-lt}
 use borrow.Author.Tests.{lt-ltb, le-ltb}
 use Rattle.lists.specs.Above.{above}
 use Rattle.lists.specs.Cells.{front, front-push}
-use Rattle.queue.specs.Laws.{front-drop, front_at, front-end}
+use Rattle.queue.proofs.Laws.{front-drop, front_at, front-end}
 
 -- those kept, and those above x of the rest
 abbrev pub kept : ℕ → ℕ → ℕ → ℕ → List ℕ → List ℕ

@@ -2,3 +2,4 @@
 mod Moved
 mod Kept
 mod Tested
+pub mod Laws

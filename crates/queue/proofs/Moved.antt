@@ -6,7 +6,7 @@ use mathlib.Core.List.{List}
 use lib.ListN.{length, take, drop, length-drop}
 use lib.Seq.{take_at, length-take-le}
 use Rattle.lists.specs.Cells.{front, moved, moved_length}
-use Rattle.queue.specs.Laws.{front-take}
+use Rattle.queue.proofs.Laws.{front-take}
 
 pub moved_front : (cells : List ℕ) (k i : ℕ) → i + k ≤ length cells → front 0 i (moved k i cells) ≡ front 0 i (drop k cells)
 unfolding moved

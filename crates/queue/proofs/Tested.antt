@@ -11,7 +11,7 @@ use borrow.Author.Tests.{le-leb, lt-leb}
 use Rattle.lists.specs.Cases.{le-or-lt}
 use Rattle.lists.specs.Cells.{front}
 use Rattle.lists.specs.All.{all, between}
-use Rattle.queue.specs.Laws.{front_at, front-end}
+use Rattle.queue.proofs.Laws.{front_at, front-end}
 
 module _ (p : ℕ → Bool) (n : ℕ) (cells : List ℕ) (i : ℕ) where
   abbrev pub tested : Bool → Bool

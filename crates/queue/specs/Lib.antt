@@ -1,3 +1,2 @@
 -- Bounded queues as lists: the view of the cells, what each operation makes of the list, and laws of those lists.
 pub mod Items
-pub mod Laws

@@ -10,7 +10,7 @@ use Rattle.rules.specs.View.{WindowView, PlayerView}
 use Rattle.rules.specs.Shape.{shape}
 use Rattle.rules.specs.Window.{Turn}
 use Rattle.rules.specs.Rules.{Outcome, window_at, operate, main_rule, catch_rule, written_rule, drop_rule}
-use Rattle.rules.specs.Offers.{shaped, operate-cases}
+use Rattle.rules.proofs.Offers.{shaped, operate-cases}
 use Rattle.player.specs.declared.Played.{Played}
 use Rattle.player.specs.View.{player_of}
 use Rattle.journal.specs.EntryLaws.{in_shape-entries}
@@ -18,7 +18,7 @@ use Rattle.player.specs.Promise.{Meets}
 use Rattle.window.specs.Promise.{number_of}
 use Rattle.delivery.specs.World.{World, side_at, numbers_in, player_in, answered, called, called_then}
 use Rattle.delivery.specs.World as W
-use Rattle.delivery.specs.Offers.{with_player-same, called_then-refused}
+use Rattle.delivery.proofs.Offers.{with_player-same, called_then-refused}
 use Rattle.script_line.specs.declared.Step.{Step}
 use Rattle.script_line.specs.declared.Step.TheVariants.{Main, At}
 use Rattle.script_line.specs.declared.Verb.TheVariants.{Catch, Written, Drop}

@@ -19,7 +19,7 @@ use Rattle.rules.specs.declared.Settings.{Settings}
 use Rattle.rules.specs.View.{WindowView, PlayerView}
 use Rattle.rules.specs.Shape.{limit_fits, spacing_fits}
 use Rattle.rules.specs.Rules.{Outcome, refuse, said, is_start_report, first_fits, start_fits, start_rule}
-use Rattle.rules.specs.Offers.{start_next, start_next-count, start_rule-done}
+use Rattle.rules.proofs.Offers.{start_next, start_next-count, start_rule-done}
 use Rattle.window.specs.Promise.{number_of}
 use Rattle.player.specs.declared.Player.{Player}
 use Rattle.player.specs.declared.Played.{Played}

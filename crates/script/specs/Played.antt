@@ -8,15 +8,15 @@ use Rattle.record.specs.declared.Record.{Record}
 use Rattle.record.specs.Record.{Outcome, record_after, take_entry, take_numbers}
 use Rattle.rules.specs.View.{PlayerView}
 use Rattle.rules.specs.Rules.{catch_rule, written_rule, drop_rule}
-use Rattle.rules.specs.Offers.{shaped, main_rule-done, main_rule-count, catch_rule-lawful, send_rule-done, written_rule-lawful}
-use Rattle.rules.specs.Offers.{ack_rule-done, drop_rule-lawful, join_rule-done}
+use Rattle.rules.proofs.Offers.{shaped, main_rule-done, main_rule-count, catch_rule-lawful, send_rule-done, written_rule-lawful}
+use Rattle.rules.proofs.Offers.{ack_rule-done, drop_rule-lawful, join_rule-done}
 use Rattle.player.specs.declared.Player.{Player}
 use Rattle.player.specs.declared.Played.{Played}
 use Rattle.player.specs.View.{player_of}
 use Rattle.player.specs.Promise.{Meets}
 use Rattle.window.specs.Promise.{number_of}
 use Rattle.delivery.specs.World.{World, rejoined}
-use Rattle.delivery.specs.Offers.{called-then}
+use Rattle.delivery.proofs.Offers.{called-then}
 use Rattle.script_line.specs.declared.Step.{Step}
 use Rattle.script_line.specs.declared.Verb.{Verb}
 use Rattle.script_line.specs.declared.Step.TheVariants.{Main, At}

@@ -10,7 +10,7 @@ use Rattle.lists.specs.All.{all, queued_in}
 use Rattle.rules.specs.declared.Term.{Term}
 use Rattle.rules.specs.View.{PlayerView}
 use Rattle.rules.specs.Shape.{is_empty}
-use Rattle.rules.specs.Offers.{shaped, batch_of-most, batch_of-queued, sent_for-index, send_rule-done}
+use Rattle.rules.proofs.Offers.{shaped, batch_of-most, batch_of-queued, sent_for-index, send_rule-done}
 use Rattle.rules.specs.Rules.{window_at, send_rule, sent_for, batch_numbers, batch_at, send_output}
 use Rattle.player.specs.declared.Played.{Played}
 use Rattle.player.specs.View.{player_of}

@@ -9,7 +9,7 @@ use Rattle.journal.specs.declared.Entry.{Entry}
 use Rattle.journal.specs.Entry.{in_shape, entries_of}
 use Rattle.rules.specs.View.{WindowView, PlayerView}
 use Rattle.rules.specs.Rules.{Outcome, with_window, ack_rule, join_rule}
-use Rattle.rules.specs.Offers.{ack_rule-done, join_rule-done}
+use Rattle.rules.proofs.Offers.{ack_rule-done, join_rule-done}
 use Rattle.player.specs.declared.Played.{Played}
 use Rattle.player.specs.View.{player_of}
 use Rattle.player.specs.Promise.{Meets}
@@ -17,7 +17,7 @@ use Rattle.window.specs.Promise.{number_of}
 use Rattle.delivery.specs.World.{Side, World, side_at, numbers_in, player_in, with_view, with_lines, answered, called_then}
 use Rattle.delivery.specs.World.{take_at_line, ack_at_line, cleared, rejoined}
 use Rattle.delivery.specs.World as W
-use Rattle.delivery.specs.Offers.{called_then-done}
+use Rattle.delivery.proofs.Offers.{called_then-done}
 use Rattle.script_line.specs.declared.Step.{Step}
 use Rattle.script_line.specs.declared.Step.TheVariants.{At}
 use Rattle.script_line.specs.declared.Verb.TheVariants.{Ack, Join, Take}

@@ -12,7 +12,7 @@ use Rattle.player.specs.declared.Player.{Player}
 use Rattle.player.specs.View.{player_of}
 use Rattle.delivery.specs.World.{World, side_at, with_side, take_front, answered, take_at_line}
 use Rattle.delivery.specs.World as W
-use Rattle.delivery.specs.Offers.{with_windows}
+use Rattle.delivery.proofs.Offers.{with_windows}
 use Rattle.script_line.specs.declared.Step.TheVariants.{At}
 use Rattle.script_line.specs.declared.Verb.TheVariants.{Take}
 use Rattle.script.specs.declared.line.Sent.{Sent}

@@ -22,7 +22,7 @@ use Rattle.player.specs.declared.Player.{Player}
 use Rattle.player.specs.View.{player_of}
 use Rattle.player.specs.FirstWindows.{first_windows-length, first_windows-at}
 use Rattle.delivery.specs.World.{Side, World, no_side, side_at, numbers_in, player_in, with_view, with_player, with_side}
-use Rattle.delivery.specs.Offers.{with_windows, with_player-window, with_side-here, with_side-twice}
+use Rattle.delivery.proofs.Offers.{with_windows, with_player-window, with_side-here, with_side-twice}
 use Rattle.script.specs.declared.line.Line.{Line}
 use Rattle.script.specs.declared.Stage.{Stage}
 use Rattle.lists.specs.Cells.{front}

@@ -12,7 +12,7 @@ use Rattle.rules.specs.View.{PlayerView}
 use Rattle.delivery.specs.World.{Side, World, side_at, replies, replies_by}
 use Rattle.delivery.specs.World as W
 use Rattle.delivery.specs.Statement.{Leading, first_world}
-use Rattle.delivery.specs.Offers.{demand-3}
+use Rattle.delivery.proofs.Offers.{demand-3}
 use Rattle.script_line.specs.declared.Step.{Step}
 use Rattle.script.specs.declared.Stage.{Stage}
 use Rattle.script.specs.declared.Reply.{Reply}

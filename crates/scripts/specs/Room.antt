@@ -14,12 +14,12 @@ use Rattle.rules.specs.declared.Settings.{Settings}
 use Rattle.rules.specs.declared.Term.{Term}
 use Rattle.rules.specs.View.{WindowView, PlayerView, no_window}
 use Rattle.rules.specs.Window.{is_suspended, main_at, batch_of, acknowledged}
-use Rattle.rules.specs.Offers.{main_at-either, start_rule-done, fetched-untouched, batch_of-most, batch_of-untouched}
-use Rattle.rules.specs.Offers.{SentOut, launched-is, acknowledged-oldest}
+use Rattle.rules.proofs.Offers.{main_at-either, start_rule-done, fetched-untouched, batch_of-most, batch_of-untouched}
+use Rattle.rules.proofs.Offers.{SentOut, launched-is, acknowledged-oldest}
 use Rattle.delivery.specs.World.{Sent, Ack, Side, World, side_at, with_view, with_lines, on_line, take_front, new_side, opened}
 use Rattle.delivery.specs.World as W
 use Rattle.delivery.specs.Statement.{new_reports, first_start, first_world}
-use Rattle.delivery.specs.Offers.{ends_of-append, on_line-ends, unacked-none, launched_side, Worked, caught, sent, written, took, acked, Moved, still, appended, mained, worked, dropped-here, joined-here, started-here, Keeps, step_count, step_keeps, side-moves, back_indices, ends_of, Inv, Reached, reached-step, opened-reached}
+use Rattle.delivery.proofs.Offers.{ends_of-append, on_line-ends, unacked-none, launched_side, Worked, caught, sent, written, took, acked, Moved, still, appended, mained, worked, dropped-here, joined-here, started-here, Keeps, step_count, step_keeps, side-moves, back_indices, ends_of, Inv, Reached, reached-step, opened-reached}
 use Rattle.script_line.specs.declared.Step.{Step}
 use Rattle.script_line.specs.declared.Step.TheVariants.{Main, At}
 use Rattle.script_line.specs.declared.Verb.TheVariants.{Catch, Send, Written, Ack as AckVerb, Drop, Join, Take}

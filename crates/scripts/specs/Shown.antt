@@ -9,12 +9,12 @@ use Rattle.lists.specs.Cases.{le-or-lt, and_intro}
 use Rattle.journal.specs.Entry.{in_shape, entries_of, five_of}
 use Rattle.record.specs.Record.{take_numbers}
 use Rattle.rules.specs.View.{PlayerView}
-use Rattle.rules.specs.Offers.{shaped}
+use Rattle.rules.proofs.Offers.{shaped}
 use Rattle.rules.specs.Rules.{Outcome, main_rule, catch_rule, written_rule, ack_rule, drop_rule, join_rule, send_rule, batch_at}
 use Rattle.delivery.specs.World.{Sent, Ack, Side, World, no_side, side_at, numbers_in, player_in, with_lines, with_player, with_side}
 use Rattle.delivery.specs.World.{on_line, take_front, answered, called, called_then, launch, take_at_line, ack_at_line, cleared, rejoined}
 use Rattle.delivery.specs.World as W
-use Rattle.delivery.specs.Offers.{windows-in, with_windows}
+use Rattle.delivery.proofs.Offers.{windows-in, with_windows}
 use Rattle.script.specs.declared.Stage.{Stage}
 use Rattle.script_line.specs.declared.Step.{Step}
 use Rattle.script_line.specs.declared.Step.TheVariants.{Main, At}

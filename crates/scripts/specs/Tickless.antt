@@ -18,12 +18,12 @@ use Rattle.rules.specs.declared.Term.{Term}
 use Rattle.rules.specs.View.{WindowView, PlayerView}
 use Rattle.rules.specs.Window.{wanted, tick_at, main_at, fetched, batch_of, Report, told, silence, started_by}
 use Rattle.rules.specs.Rules.{said_by, sent_for}
-use Rattle.rules.specs.Offers.{read_at-other, tick_at-cases, main_at-both, main_at-either, batch_of-cases, batch_of-queued, launched-is, sent_for-is_own}
-use Rattle.rules.specs.Offers.{start_rule-done}
+use Rattle.rules.proofs.Offers.{read_at-other, tick_at-cases, main_at-both, main_at-either, batch_of-cases, batch_of-queued, launched-is, sent_for-is_own}
+use Rattle.rules.proofs.Offers.{start_rule-done}
 use Rattle.delivery.specs.World.{Sent, Side, World, side_at, take_front, opened}
 use Rattle.delivery.specs.World as W
 use Rattle.delivery.specs.Statement.{new_reports, first_start, first_world}
-use Rattle.delivery.specs.Offers.{on_line-entries, launched_side, Worked, caught, sent, written, took, acked, Moved, still, appended, mained, worked, dropped-here, joined-here, started-here, step_count, side-moves, line_entries, Reached, reached-step, run-count, opened-count, opened-side, opened-reached}
+use Rattle.delivery.proofs.Offers.{on_line-entries, launched_side, Worked, caught, sent, written, took, acked, Moved, still, appended, mained, worked, dropped-here, joined-here, started-here, step_count, side-moves, line_entries, Reached, reached-step, run-count, opened-count, opened-side, opened-reached}
 use Rattle.script_line.specs.declared.Step.{Step}
 use Rattle.script.specs.Stage.{step_in, steps_in}
 use Rattle.scripts.specs.Room.{scripted, step_in-scripted, scripted-keeps}

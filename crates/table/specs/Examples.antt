@@ -4,7 +4,7 @@ use Rattle.std.proofs.Common.{arith}
 use Rattle.journal.specs.Entry.{Placed, numbers_of, entries_of, entry_at, has_window, is_for, entry4}
 use Rattle.lists.specs.All.{all}
 use Rattle.record.specs.Record.{new_record, race_after, races_after, record_after, take_entry, take_all}
-use Rattle.record.specs.Races.{race_at}
+use Rattle.record.proofs.Races.{race_at}
 use Rattle.rules.specs.View.{normal, suspended, WindowView, PlayerView}
 use Rattle.rules.specs.Shape.{window_shape, shape}
 use Rattle.table.specs.States.{OneMore, EightOut, MoreReady, Away, CanTake, OpenUntil}

@@ -7,7 +7,7 @@ use Rattle.rules.specs.View.{PlayerView}
 use Rattle.delivery.specs.World.{World, side_at, answered, run, replies}
 use Rattle.delivery.specs.World as W
 use Rattle.delivery.specs.Statement.{first_world}
-use Rattle.delivery.specs.Examples.{computed, done, Shown, nobody, afternoon}
+use Rattle.delivery.proofs.Examples.{computed, done, Shown, nobody, afternoon}
 use Rattle.script_line.specs.declared.Step.{Step}
 use Rattle.script_line.specs.declared.Step.TheVariants.{Main, At}
 use Rattle.script_line.specs.declared.Verb.TheVariants.{Catch, Send, Drop, Join, Take}

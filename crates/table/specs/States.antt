@@ -9,13 +9,13 @@ use Rattle.journal.specs.Entry.{Placed, entry4, is_race, is_off, entries_of, is_
 use Rattle.journal.specs.EntryLaws.{entries_of-length, is_for-within}
 use Rattle.record.specs.declared.Record.{Record}
 use Rattle.record.specs.Record.{take_entry, take_numbers, take_all, may_stamp}
-use Rattle.record.specs.Races.{race_at, ClosedAs}
-use Rattle.record.specs.Laws.{take_entry-answers, take_entry-close, take_entry-closed, take_entry-post, take_entry-post-closed, take_numbers-placed, take_all-count, may_stamp-open, may_stamp-closed}
+use Rattle.record.proofs.Races.{race_at, ClosedAs}
+use Rattle.record.proofs.Laws.{take_entry-answers, take_entry-close, take_entry-closed, take_entry-post, take_entry-post-closed, take_numbers-placed, take_all-count, may_stamp-open, may_stamp-closed}
 use Rattle.rules.specs.View.{normal, suspended, WindowView, PlayerView}
 use Rattle.rules.specs.Shape.{shape}
 use Rattle.rules.specs.Window.{is_suspended, wanted, read_at, batch_of}
 use Rattle.rules.specs.Rules.{window_at, main_rule, send_rule, batch_at}
-use Rattle.rules.specs.Offers.{shaped, batches-here, window_at-within, tick_at-cases, main_at-both, ticked-same, main_next-at, main_rule-done, main_rule-can, is_empty-drop, ready_of, ready_of-here, TakesReady, batch_of-ready, send_rule-can}
+use Rattle.rules.proofs.Offers.{shaped, batches-here, window_at-within, tick_at-cases, main_at-both, ticked-same, main_next-at, main_rule-done, main_rule-can, is_empty-drop, ready_of, ready_of-here, TakesReady, batch_of-ready, send_rule-can}
 
 -- ------------------------------------------------------------------------
 -- (c), (d): window w is Normal with n queued, and the main stream's next entry is for it and above its acknowledged index

@@ -7,16 +7,16 @@ use Rattle.lists.specs.Answer.{answer}
 use Rattle.journal.specs.Entry.{numbers_of, entries_of}
 use Rattle.record.specs.declared.Record.{Record}
 use Rattle.record.specs.Record.{Outcome, take_numbers, may_stamp}
-use Rattle.record.specs.Races.{race_at}
+use Rattle.record.proofs.Races.{race_at}
 use Rattle.rules.specs.View.{normal, fetching, WindowView, PlayerView}
 use Rattle.rules.specs.Shape.{shape}
 use Rattle.rules.specs.Window.{is_suspended, joined}
 use Rattle.rules.specs.Rules.{window_at, main_rule, join_rule, send_rule, batch_at}
-use Rattle.rules.specs.Offers.{shaped, operated-at, main_rule-refusals, send_rule-refusals, join_rule-refusals, read_at-room, read_at-normal, ready_of, launched-ready, send_rule-done, join_rule-done, join_rule-can}
+use Rattle.rules.proofs.Offers.{shaped, operated-at, main_rule-refusals, send_rule-refusals, join_rule-refusals, read_at-room, read_at-normal, ready_of, launched-ready, send_rule-done, join_rule-done, join_rule-can}
 use Rattle.journal_text.specs.Text.{header}
 use Rattle.journal_text.specs.Scan.{scan}
 use Rattle.journal_text.specs.Answers.{Current}
-use Rattle.journal_text.specs.AnswerLaws.{Reads, reads-good, reads-bad}
+use Rattle.journal_text.proofs.AnswerLaws.{Reads, reads-good, reads-bad}
 use Rattle.table.specs.Run.{RunA, row-a, StageA, row-a-stage}
 use Rattle.table.specs.States.{OneMore, one_more-wanted, one_more-window, EightOut, eight_out-within, eight_out-here, MoreReady, more_ready-taken, more_ready-length, more_ready-answer, Away, CanTake, can_take-below, can_take-post, can_take-close, OpenUntil, open_until-stamps, StillClosed, closed-post, lent-answer, lent-count}
 

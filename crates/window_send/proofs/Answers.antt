@@ -13,7 +13,7 @@ use Rattle.rules.specs.View.{WindowView}
 use Rattle.rules.specs.Shape.{is_empty, lengths_fit}
 use Rattle.rules.specs.Window.{check, is_suspended, batch_of, launched, send_at}
 use Rattle.rules.specs.Rules.{batch_numbers}
-use Rattle.rules.specs.Offers.{check-yes, check-no, check-passed, send_at-refuses, send_at-can, SentOut, send_at-done}
+use Rattle.rules.proofs.Offers.{check-yes, check-no, check-passed, send_at-refuses, send_at-can, SentOut, send_at-done}
 use Rattle.window_send.specs.Sending.{send_guard, send_turn, turn_output}
 use Rattle.window_send.specs.Shares.{caught_of, queued_of, parted}
 use Rattle.window_send.specs.Shares.{caught_of-held, queued_of-held, shares-limit, batch_of-parted, batch_of-length}

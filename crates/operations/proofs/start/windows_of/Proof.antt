@@ -6,7 +6,7 @@ use lib.ListN.{length, take}
 use lib.Seq.{take-length}
 use Rattle.player.specs.Promise.{fresh_windows}
 use Rattle.rules.specs.Rules.{said}
-use Rattle.rules.specs.Offers.{said-length}
+use Rattle.rules.proofs.Offers.{said-length}
 use Rattle.operations.specs.Starting.{fresh_windows-none, fresh_windows-more}
 use borrow.Author.Rules.{rules}
 use Rattle.operations.proofs.start.windows_of.Statement.{statement}

@@ -5,7 +5,7 @@ use mathlib.Core.Path.{◌≡◌}
 use lib.ListN.{length}
 use borrow.Author.Rules.{rules}
 use Rattle.queue.specs.Items.{batches_of}
-use Rattle.queue.specs.Laws.{where_fits-front-over, where_fits-front-fits}
+use Rattle.queue.proofs.Laws.{where_fits-front-over, where_fits-front-fits}
 use Rattle.queue.proofs.Batches.above.Statement.{statement}
 use Rattle.queue.proofs.Batches.above.Tie as tie
 

@@ -5,7 +5,7 @@ use mathlib.Core.Path.{◌≡◌}
 use lib.ListN.{length}
 use borrow.Author.Rules.{rules}
 use Rattle.queue.specs.Items.{batches_of}
-use Rattle.queue.specs.Laws.{pushed-front-full, pushed-front-room}
+use Rattle.queue.proofs.Laws.{pushed-front-full, pushed-front-room}
 use Rattle.queue.proofs.Batches.push.Statement.{statement}
 use Rattle.queue.proofs.Batches.push.Tie as tie
 

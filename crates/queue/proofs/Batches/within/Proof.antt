@@ -6,9 +6,9 @@ use lib.ListN.{length}
 use lib.Dec.{eqb}
 use borrow.Author.Rules.{rules}
 use Rattle.lists.specs.Cells.{front_length}
-use Rattle.lists.specs.Above.{above-none}
+use Rattle.lists.proofs.Above.{above-none}
 use Rattle.queue.specs.Items.{batches_of}
-use Rattle.queue.specs.Laws.{front_fits, front-over}
+use Rattle.queue.proofs.Laws.{front_fits, front-over}
 use Rattle.queue.proofs.Batches.within.Statement.{statement}
 use Rattle.queue.proofs.Batches.within.Tie as tie
 

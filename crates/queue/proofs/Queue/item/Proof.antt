@@ -5,7 +5,7 @@ use mathlib.Core.Path.{◌≡◌, sym}
 use lib.ListN.{length}
 use borrow.Author.Rules.{rules}
 use Rattle.queue.specs.Items.{items_of}
-use Rattle.queue.specs.Laws.{front-get_or, front-past, front_out}
+use Rattle.queue.proofs.Laws.{front-get_or, front-past, front_out}
 use Rattle.queue.proofs.Queue.item.Statement.{statement}
 use Rattle.queue.proofs.Queue.item.Tie as tie
 

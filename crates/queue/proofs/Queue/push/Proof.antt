@@ -7,7 +7,7 @@ use lib.ListN.{length}
 use borrow.Author.Rules.{rules}
 use borrow.Author.Tests.{not-true, not-false}
 use Rattle.queue.specs.Items.{items_of, fits_cell}
-use Rattle.queue.specs.Laws.{fits_cell-most, queued-fits, queued-over, pushed-front-full, pushed-front-room}
+use Rattle.queue.proofs.Laws.{fits_cell-most, queued-fits, queued-over, pushed-front-full, pushed-front-room}
 use Rattle.queue.proofs.Queue.push.Statement.{statement}
 use Rattle.queue.proofs.Queue.push.Tie as tie
 

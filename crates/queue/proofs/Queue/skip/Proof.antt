@@ -5,7 +5,7 @@ use mathlib.Core.Path.{◌≡◌}
 use lib.ListN.{length}
 use borrow.Author.Rules.{rules}
 use Rattle.queue.specs.Items.{items_of}
-use Rattle.queue.specs.Laws.{where_fits-front-over, where_fits-front-fits}
+use Rattle.queue.proofs.Laws.{where_fits-front-over, where_fits-front-fits}
 use Rattle.queue.proofs.Queue.skip.Statement.{statement}
 use Rattle.queue.proofs.Queue.skip.Tie as tie
 

@@ -7,7 +7,7 @@ use borrow.Author.Rules.{rules}
 use Rattle.lists.specs.All.{all}
 use Rattle.lists.specs.Cells.{front}
 use Rattle.queue.specs.Items.{items_of}
-use Rattle.queue.specs.Laws.{front_fits, front-over}
+use Rattle.queue.proofs.Laws.{front_fits, front-over}
 use Rattle.queue.proofs.Queue.within.Statement.{statement}
 use Rattle.queue.proofs.Queue.within.Tie as tie
 

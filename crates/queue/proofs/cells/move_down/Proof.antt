@@ -7,7 +7,7 @@ use mathlib.Core.Path.{◌≡◌, refl, sym}
 use lib.ListN.{length}
 use borrow.Author.Rules.{rules}
 use Rattle.lists.specs.Cells.{front, moved, moved-get_or, moved-turn}
-use Rattle.queue.specs.Laws.{front-end, front-drop}
+use Rattle.queue.proofs.Laws.{front-end, front-drop}
 use Rattle.queue.proofs.Moved.{moved_front}
 use Rattle.queue.proofs.cells.move_down.Statement.{statement}
 use Rattle.queue.proofs.cells.move_down.Tie as tie

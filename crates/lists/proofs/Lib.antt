@@ -1,0 +1,2 @@
+-- The laws, proved of the definitions of specs/.
+pub mod Above

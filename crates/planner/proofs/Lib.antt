@@ -1,0 +1,4 @@
+-- The laws, proved of the definitions of specs/.
+pub mod PlanLaws
+pub mod Least
+pub mod Examples
