@@ -2,12 +2,8 @@
 use mathlib.Core.Path.{sym}
 use Rattle.queue.specs.Items.{items_of}
 use Rattle.lists.specs.Cells.{front_length}
-use Rattle.queue.proofs.Queue.size.Statement.{statement}
-use Rattle.queue.proofs.Queue.size.Tie as tie
+use Rattle.queue.proofs.Queue.size.Goals as goal
 
-returns : tie.Need-returns
+pub returns : goal.returns
 unfolding items_of
 returns c = sym (front_length 0 c.args.self.len c.args.self.cells)
-
-pub size-spec : {M : Type 1} → statement M
-size-spec = tie.close (tie.spec returns)
