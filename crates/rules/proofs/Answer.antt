@@ -1,11 +1,11 @@
 -- What a rule answers, check by check. The law of each operation stands first in its own file, to be read beside its paragraph of
 -- document 01.
-use Rattle.std.specs.Prelude.{ℕ, ◌≡◌, refl, List, Bool, true, false, not, cond, length, ltb}
+use Rattle.std.specs.Prelude.{ℕ, ◌≡◌, refl, List, Bool, true, false, not, cond}
 use Rattle.std.proofs.Common.{ap}
 use Rattle.lists.specs.Cases.{cond-ap}
 use Rattle.rules.specs.View.{WindowView, PlayerView}
 use Rattle.rules.specs.Shape.{shape}
-use Rattle.rules.specs.Window.{Turn, check, is_suspended}
+use Rattle.rules.specs.Window.{Turn, check}
 use Rattle.rules.specs.Rules.{Outcome, window_at, operate}
 use Rattle.rules.specs.Refusals.{out_of_shape, no_such_window}
 
