@@ -1,5 +1,5 @@
 -- W4's counts hold of the calls: a call is counted as its step is, and the host that a fault or an append left shows the world left.
-use Rattle.std.specs.Prelude.{ℕ, suc, ◌<◌, ◌≡◌, Bool, true, false, ◌&&◌}
+use Rattle.std.specs.Prelude.{ℕ, suc, ◌≡◌, Bool, true, false, ◌&&◌}
 use Rattle.std.proofs.Math.Path.{refl, ap}
 use Rattle.std.proofs.Common.{sym, ap₂, ◌∙◌, arith}
 use mathlib.Core.List.{List, [], ◌∷◌, map}
@@ -46,7 +46,8 @@ module _ (kind : Host → Call → Bool) (kind_in : World → Step → Bool) (ag
   done_since-steps n is r [] made = refl
   done_since-steps n {h} {wd} is r (c ∷ cs) (first, rest) =
       let f = follows is r c first in
-      done_since-steps _ f.shows (reached-step wd (call_step c) r) cs rest
+      let so_far : ℕ = cond (begins (call_sort c) (done_in h c)) 0 (cond (kind h c && done_in h c) (suc n) n) in
+      done_since-steps so_far f.shows (reached-step wd (call_step c) r) cs rest
       ∙ ap (λ m. Counting.done_since kind_in m (step (call_step c) wd).world (map call_step cs))
       (ap₂ (λ d k. cond (begins (call_sort c) d) 0 (cond (k && d) (suc n) n)) (sym f.done) (agree h wd is c))
 
@@ -56,7 +57,8 @@ unfolding left_by Counting.left_by
 left_by-shows left is r [] made = left
 left_by-shows {g} {h} {given} {wd} left is r (c ∷ cs) (first, rest) =
     let f = follows is r c first in
-    left_by-shows (rw f.done (by (begins (call_sort c) (done_in h c)) f.shows)) f.shows (reached-step wd (call_step c) r) cs rest
+    let begun : Bool = begins (call_sort c) (done_in h c) in
+    left_by-shows {g = cond begun (after c h) g} (rw f.done (by begun f.shows)) f.shows (reached-step wd (call_step c) r) cs rest
   where
     by : (b : Bool) → Shows (after c h) (step (call_step c) wd).world →
         Shows (cond b (after c h) g) (cond b (step (call_step c) wd).world given)

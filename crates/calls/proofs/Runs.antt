@@ -7,7 +7,7 @@ use Rattle.delivery.specs.Sorts.{begins, joined_by}
 use Rattle.delivery.specs.Statement as Delivery
 use Rattle.delivery.specs.Same.{same_world}
 use Rattle.delivery.proofs.Offers.{Reached, reached-step}
-use Rattle.calls.specs.Host.{Host, Call, main, catch, written, send, take, ack, late-ack, drop, join, start, append, call_step, call_sort, Made, after, MadeAll, host_after}
+use Rattle.calls.specs.Host.{Host, Call, main, catch, written, send, take, ack, late-ack, drop, join, start, append, call_step, call_sort, done_in, Made, after, MadeAll, host_after}
 use Rattle.calls.specs.Statement.{same_host, changes, joined_after}
 use Rattle.calls.proofs.Shows.{Shows}
 use Rattle.calls.proofs.Steps.{Follows, follows-main, follows-catch, follows-written, follows-late, follows-drop, follows-append}
@@ -45,8 +45,8 @@ pub host_after-shows : {h : Host} {wd : World} → Shows h wd → Reached wd →
     Shows (host_after h cs) (run wd (map call_step cs))
 unfolding host_after run_by
 host_after-shows is r [] made = is
-host_after-shows {wd = wd} is r (c ∷ cs) (first, rest) =
-    host_after-shows (follows is r c first).shows (reached-step wd (call_step c) r) cs rest
+host_after-shows {h = h} {wd = wd} is r (c ∷ cs) (first, rest) =
+    host_after-shows {h = after c h} (follows is r c first).shows (reached-step wd (call_step c) r) cs rest
 
 pub changes-steps : (n : ℕ) {h : Host} {wd : World} → Shows h wd → Reached wd → (cs : List Call) → MadeAll h cs →
     changes n h cs ≡ Delivery.changes n wd (map call_step cs)
@@ -54,7 +54,8 @@ unfolding changes Delivery.changes_by
 changes-steps n is r [] made = refl
 changes-steps n {h} {wd} is r (c ∷ cs) (first, rest) =
     let f = follows is r c first in
-    changes-steps _ f.shows (reached-step wd (call_step c) r) cs rest
+    let so_far : ℕ = cond (begins (call_sort c) (done_in h c)) 0 (cond (same_host h (after c h)) n (suc n)) in
+    changes-steps so_far f.shows (reached-step wd (call_step c) r) cs rest
     ∙ ap (λ m. Delivery.changes m (step (call_step c) wd).world (map call_step cs))
     (ap₂ (λ d b. cond (begins (call_sort c) d) 0 (cond b n (suc n))) (sym f.done) (same_host-world is f.shows))
 
@@ -64,6 +65,6 @@ unfolding joined_after Delivery.joined_after_by
 joined_after-steps w b is r [] made = refl
 joined_after-steps w b {h} {wd} is r (c ∷ cs) (first, rest) =
     let f = follows is r c first in
-    joined_after-steps w _ f.shows (reached-step wd (call_step c) r) cs rest
+    joined_after-steps w (joined_by w (call_sort c) (done_in h c) b) f.shows (reached-step wd (call_step c) r) cs rest
     ∙ ap (λ d. Delivery.joined_after w d (step (call_step c) wd).world (map call_step cs))
     (ap (λ d. joined_by w (call_sort c) d b) (sym f.done))

@@ -10,7 +10,7 @@ use Rattle.delivery.specs.World.{Side, World, player_in}
 use Rattle.delivery.specs.World as W
 use Rattle.delivery.specs.Same.{same_window, same_entry, same_ack, same_side, same_world}
 use Rattle.delivery.specs.Same as Delivery
-use Rattle.calls.specs.Host.{Sent, WindowEnd, Host}
+use Rattle.calls.specs.Host.{WindowEnd, Host}
 use Rattle.calls.specs.Statement.{same_sent, same_end, same_host}
 use Rattle.calls.proofs.Shows.{in_numbers, end_of, Shows}
 

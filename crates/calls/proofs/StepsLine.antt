@@ -23,7 +23,7 @@ use Rattle.delivery.specs.World.{Ack, Side, World, no_side, side_at, numbers_in,
 use Rattle.delivery.specs.World as W
 use Rattle.delivery.specs.Sorts as Delivery
 use Rattle.delivery.proofs.Offers.{Reached, last_of, windows-in}
-use Rattle.calls.specs.Host.{Sent, Host, new_end, end_at, with_end, with_lines, cleared, cleared_all, rejoined, restarted, put_on, send, take, ack, join, start, report_of, MadeTake, MadeAck, Made, is_done, is_taken, done_at_line, batch_in, batch_to, take_front, ack_front, after}
+use Rattle.calls.specs.Host.{Host, new_end, end_at, with_end, with_lines, cleared, cleared_all, rejoined, restarted, put_on, send, take, ack, join, start, report_of, MadeTake, MadeAck, Made, is_done, is_taken, done_at_line, batch_in, batch_to, take_front, ack_front, after}
 use Rattle.calls.proofs.Shows.{in_numbers, end_of, Shows, Gives, shows-count, shows-end, shows-held, shows-rule, shows-meets, shows-side, shows-raised, shows-called, shows-lines, shows-changed}
 use Rattle.calls.proofs.Sends.{send_output-on_line}
 use Rattle.calls.proofs.Steps.{Follows, count-sides, answer-same}

@@ -14,10 +14,10 @@ use Rattle.decimal.specs.declared.Written.TheVariants.{To, NoRoom}
 -- Reading
 
 -- a numeral of at most the bound that stands at the place is read
-pub read_at : (bound n at : ℕ) (text rest : List ℕ) → n ≤ bound → lead_digits rest ≡ [] → drop at text ≡ numeral n ++ rest
+pub read-stands : (bound n at : ℕ) (text rest : List ℕ) → n ≤ bound → lead_digits rest ≡ [] → drop at text ≡ numeral n ++ rest
     → read_at bound text at ≡ Number n (at + length (numeral n))
 unfolding read_at
-read_at bound n at text rest h f e =
+read-stands bound n at text rest h f e =
     let d : lead_digits (drop at text) ≡ numeral n = ap lead_digits e ∙ lead_digits-numeral n rest f in
     simp (d, value-numeral n, canonical-numeral n, le-leb n bound h)
 
@@ -25,14 +25,14 @@ read_at bound n at text rest h f e =
 pub read-numeral : (bound n : ℕ) (before rest : List ℕ) → n ≤ bound → lead_digits rest ≡ []
     → read_at bound (before ++ numeral n ++ rest) (length before) ≡ Number n (length before + length (numeral n))
 read-numeral bound n before rest h f =
-    read_at bound n (length before) (before ++ numeral n ++ rest) rest h f
+    read-stands bound n (length before) (before ++ numeral n ++ rest) rest h f
     (rw append_assoc (drop-append_seam before (numeral n ++ rest)))
 
 -- A result to be read: where nothing is read, no numeral of at most the bound stands.
 pub read-refuses : (bound : ℕ) (text : List ℕ) (at n : ℕ) (rest : List ℕ) → read_at bound text at ≡ Nothing
     → n ≤ bound → lead_digits rest ≡ [] → drop at text ≡ numeral n ++ rest → ⊥
 read-refuses bound text at n rest e h f d =
-    let z : ◌≡◌ {A = ℕ} 0 1 = cc (read_at bound n at text rest h f d) in
+    let z : ◌≡◌ {A = ℕ} 0 1 = cc (read-stands bound n at text rest h f d) in
     omega arith
 
 -- what a read that answers a number tells of the text

@@ -161,7 +161,8 @@ pub changes-bound : (n : ℕ) (wd : World) (ss : List Step) → Reached wd → n
     changes n wd ss ≤ most_work (run wd ss)
 unfolding changes_by run_by
 changes-bound n wd [] r h = omega arith
-changes-bound n wd (s ∷ ss) r h = changes-bound _ (step s wd).world ss (reached-step wd s r) (after-step n wd s r h)
+changes-bound n wd (s ∷ ss) r h =
+    changes-bound (count_after n wd s r h) (step s wd).world ss (reached-step wd s r) (after-step n wd s r h)
 
 -- ------------------------------------------------------------------------
 -- no work left

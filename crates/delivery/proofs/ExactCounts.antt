@@ -64,7 +64,9 @@ module _ (kind : World → Step → Bool) (f : World → ℕ) (count : ℕ)
   unfolding done_since left_by run_by
   counted n left wd [] r c so_far = so_far
   counted n left wd (s ∷ ss) r c so_far =
-      counted _ _ (step s wd).world ss (reached-step wd s r) (step_count wd s r.in_shape ∙ c) (counted_step n left wd s so_far r c)
+      let begun : Bool = begins (sort_of s) (is_done (step s wd).reply) in
+      counted (cond begun 0 (one_more (kind wd s && is_done (step s wd).reply) n)) (cond begun (step s wd).world left) (step s wd).world ss
+      (reached-step wd s r) (step_count wd s r.in_shape ∙ c) (counted_step n left wd s so_far r c)
 
 -- ------------------------------------------------------------------------
 -- Mains
@@ -177,7 +179,9 @@ left_step left wd s r l =
 left-run : (left wd : World) (ss : List Step) → Reached wd → Left left wd → Left (left_by left wd ss) (run wd ss)
 unfolding left_by run_by
 left-run left wd [] r l = l
-left-run left wd (s ∷ ss) r l = left-run _ (step s wd).world ss (reached-step wd s r) (left_step left wd s r l)
+left-run left wd (s ∷ ss) r l =
+    left-run (cond (begins (sort_of s) (is_done (step s wd).reply)) (step s wd).world left) (step s wd).world ss (reached-step wd s r)
+    (left_step left wd s r l)
 
 -- ------------------------------------------------------------------------
 -- the counts

@@ -1,5 +1,5 @@
 -- Drop, Join, Start and an append keep the invariant.
-use Rattle.std.specs.Prelude.{ℕ, ◌+◌, ◌-◌, ◌≤◌, ◌<◌, ◌≡◌, refl, List, [], ◌∷◌, ◌++◌, map, Bool, true, false, cond, length}
+use Rattle.std.specs.Prelude.{ℕ, ◌≤◌, ◌<◌, ◌≡◌, refl, List, [], ◌∷◌, ◌++◌, map, Bool, true, false, cond, length}
 use Rattle.std.proofs.Common.{sym, ap, ◌∙◌, ⊎_elim, true≢false, arith, le_refl, lt-ltb, le-ltb, length-append}
 use Rattle.std.proofs.lemmas.Bool.{false≢true}
 use Rattle.journal.specs.declared.Entry.{Entry}

@@ -10,7 +10,7 @@ use Rattle.rules.specs.declared.Settings.{Settings}
 use Rattle.rules.specs.Shape.{shape}
 use Rattle.rules.specs.Window.{is_suspended, main_at, dropped, started_by}
 use Rattle.rules.specs.Rules.{speaks, said_by}
-use Rattle.delivery.specs.World.{Side, World, no_side, side_at, numbers_in, player_in, with_view, with_side, cleared, Step, drop, join, start, append, Reply, step}
+use Rattle.delivery.specs.World.{Side, World, no_side, side_at, numbers_in, player_in, with_view, cleared, Step, drop, join, start, append, Reply, step}
 use Rattle.delivery.specs.Sorts.{is_done, Sort, mains, takes, other_work, drops, joins, starts, appends, sort_of, begins, joined_by, is_take_at}
 use Rattle.delivery.proofs.Invariant.{last_of}
 use Rattle.delivery.proofs.Worlds.{with_side-count}

@@ -5,10 +5,10 @@ use Rattle.std.proofs.Math.Path.{subst⁻¹}
 use Rattle.lists.specs.Cases.{eq-or-ne}
 
 -- an item that is there, whatever stands for one that is not
-pub get_d_any : {A : Type 0} (l : List A) (i : ℕ) (d e : A) → i < length l → get_or l i d ≡ get_or l i e
-get_d_any [] i d e h = absurd (omega arith)
-get_d_any (x ∷ l) zero d e h = refl
-get_d_any (x ∷ l) (suc i) d e h = get_d_any l i d e (omega arith)
+pub get_or-any : {A : Type 0} (l : List A) (i : ℕ) (d e : A) → i < length l → get_or l i d ≡ get_or l i e
+get_or-any [] i d e h = absurd (omega arith)
+get_or-any (x ∷ l) zero d e h = refl
+get_or-any (x ∷ l) (suc i) d e h = get_or-any l i d e (omega arith)
 
 -- ------------------------------------------------------------------------
 -- one item replaced

@@ -6,7 +6,7 @@ use Rattle.std.proofs.Math.Bool.{and-eq-true_iff}
 use Rattle.std.proofs.lemmas.Bool.{false≢true}
 use Rattle.std.proofs.Math.Seq.{take-append_seam, drop-append_seam, drop-length}
 use Rattle.decimal.specs.Numeral.{numeral, lead_digits, read_at}
-use Rattle.decimal.specs.Laws.{read_at, read-accepts}
+use Rattle.decimal.specs.Laws.{read-stands, read-accepts}
 use Rattle.decimal.specs.declared.Numeral.{Numeral}
 use Rattle.decimal.specs.declared.Numeral.TheVariants.{Number, Nothing}
 use Rattle.script_line.specs.declared.Verb.{Verb}
@@ -62,7 +62,7 @@ pub number_after-reads : (word : List ℕ) (bound n : ℕ) → n ≤ bound
 unfolding number_after lead_digits
 number_after-reads word bound n h =
     let seam = drop-append_seam word (numeral n) ∙ sym (append-nil (numeral n)) in
-    let r = read_at bound n (length word) (word ++ numeral n) [] h refl seam in
+    let r = read-stands bound n (length word) (word ++ numeral n) [] h refl seam in
     simp (take-append_seam word (numeral n), same-itself word, r, length-append, eq-eqb (length word + length (numeral n)) _ refl)
 
 -- what is read was written
