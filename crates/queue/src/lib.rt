@@ -6,14 +6,14 @@ mod ends;
 mod indices;
 
 // Indices, oldest first: the cells below the length.
-#[derive(Drop)]
+#[derive(Clone, Copy)]
 pub struct Queue {
     pub cells: [u16; 128],
     pub len: usize,
 }
 
 // The last index of each unacknowledged batch, oldest first.
-#[derive(Drop)]
+#[derive(Clone, Copy)]
 pub struct Batches {
     pub cells: [u32; 8],
     pub len: usize,

@@ -38,6 +38,7 @@ impl Head {
 
 impl Window {
     // Whether the line is dropped.
+    #[tactic(auto, unfolding(crate::specs::View::view_of))]
     pub fn is_suspended(self) -> bool
         ensures { result ≡ is_suspended (view_of self).condition }
     {
@@ -52,6 +53,7 @@ impl Window {
     }
 
     // Whether a term is another than this window's.
+    #[tactic(auto, unfolding(crate::specs::View::view_of))]
     fn has_other_term(self, term: Term) -> bool
         ensures { result ≡ other_term term (view_of self) }
     {

@@ -75,6 +75,7 @@ impl Condition {
 
 impl Window {
     // Whether the queues hold at most 128 indices each and there are at most 8 unacknowledged batches.
+    #[tactic(auto, unfolding(crate::specs::View::view_of))]
     pub fn fits(self) -> bool
         ensures { result ≡ lengths_fit (view_of self) }
     {
@@ -93,6 +94,7 @@ impl Window {
 
     // Whether the queues suit the condition: a catch-up queue is empty in Normal and not empty in Completed, and in
     // Suspended nothing is queued or unacknowledged.
+    #[tactic(auto, unfolding(crate::specs::View::view_of))]
     fn queues_suit(self) -> bool
         ensures { result ≡ (catch_up_fits (view_of self).condition (view_of self).catch_queue
             && suspended_fits (view_of self) (view_of self).condition) }
@@ -119,6 +121,7 @@ impl Window {
     }
 
     // Whether the acknowledged index, the sent index and the last indices of at most 8 batches are at most l.
+    #[tactic(auto, unfolding(crate::specs::View::view_of))]
     fn holds(self, l: u32) -> bool
         ensures { result ≡ (leb (view_of self).acked l
             && (leb (view_of self).sent l
