@@ -17,7 +17,14 @@ fn field(rt: &impl Print, name: &[u8], n: u32) -> io::Result<()> {
 }
 
 // Writes the case's name, the answer and, where it is 0, the three figures.
-fn show(rt: &impl Print, name: &[u8], journal: &[u32], w: u32, last: u32, limit: u32) -> io::Result<()> {
+fn show(
+    rt: &impl Print,
+    name: &[u8],
+    journal: &[u32],
+    w: u32,
+    last: u32,
+    limit: u32,
+) -> io::Result<()> {
     let answer = plan(journal, w, Index(last), limit);
     text(rt, name)?;
     match answer {
@@ -51,7 +58,14 @@ fn ones() -> [u32; 262144]
 }
 
 // A case of window 0 on the first n numbers.
-fn front(rt: &impl Print, name: &[u8], many: &[u32], n: usize, last: u32, limit: u32) -> io::Result<()> {
+fn front(
+    rt: &impl Print,
+    name: &[u8],
+    many: &[u32],
+    n: usize,
+    last: u32,
+    limit: u32,
+) -> io::Result<()> {
     if n <= many.len() {
         show(rt, name, &many[0..n], 0, last, limit)?;
     }
@@ -110,9 +124,30 @@ fn sizes(rt: &impl Print, many: &[u32]) -> io::Result<()> {
     front(rt, b"65 entries", many, 260, 0, 32)?;
     front(rt, b"65535 entries", many, 262140, 0, 32)?;
     front(rt, b"65535 entries, limit 1", many, 262140, 0, 1)?;
-    front(rt, b"65535 entries, last index 65534", many, 262140, 65534, 32)?;
-    front(rt, b"65535 entries, last index 65535", many, 262140, 65535, 32)?;
-    front(rt, b"65535 entries, last index 65536", many, 262140, 65536, 32)?;
+    front(
+        rt,
+        b"65535 entries, last index 65534",
+        many,
+        262140,
+        65534,
+        32,
+    )?;
+    front(
+        rt,
+        b"65535 entries, last index 65535",
+        many,
+        262140,
+        65535,
+        32,
+    )?;
+    front(
+        rt,
+        b"65535 entries, last index 65536",
+        many,
+        262140,
+        65536,
+        32,
+    )?;
     front(rt, b"65536 entries", many, 262144, 0, 32)
 }
 

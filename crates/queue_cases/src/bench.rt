@@ -79,7 +79,14 @@ fn handed(x: u32, n: usize) -> Bench {
 }
 
 // What a letter does, or shows.
-fn letter(rt: &impl Print, q: Queue, b: Batches, number: u64, before: u64, byte: u8) -> io::Result<Bench> {
+fn letter(
+    rt: &impl Print,
+    q: Queue,
+    b: Batches,
+    number: u64,
+    before: u64,
+    byte: u8,
+) -> io::Result<Bench> {
     Ok(match byte {
         b'p' => made(q.push(index_of(number)), b.push(index_of(number))),
         b's' => made(q.skip(number as usize), b),

@@ -39,7 +39,13 @@ fn indices(rt: &impl Print, q: Queue) -> io::Result<()> {
 }
 
 // What a letter shows of a queue; nothing where it is none of these.
-pub(crate) fn queue(rt: &impl Print, q: Queue, at: usize, bound: u32, letter: u8) -> io::Result<()> {
+pub(crate) fn queue(
+    rt: &impl Print,
+    q: Queue,
+    at: usize,
+    bound: u32,
+    letter: u8,
+) -> io::Result<()> {
     match letter {
         b'i' => indices(rt, q)?,
         b'z' => value(rt, q.size() as u64)?,
@@ -72,7 +78,13 @@ fn row(rt: &impl Print, b: Batches) -> io::Result<()> {
 }
 
 // What a letter shows of batches; nothing where it is none of these.
-pub(crate) fn batches(rt: &impl Print, b: Batches, at: usize, bound: u32, letter: u8) -> io::Result<()> {
+pub(crate) fn batches(
+    rt: &impl Print,
+    b: Batches,
+    at: usize,
+    bound: u32,
+    letter: u8,
+) -> io::Result<()> {
     match letter {
         b'I' => row(rt, b)?,
         b'Z' => value(rt, b.size() as u64)?,

@@ -77,7 +77,15 @@ fn show(rt: &impl Print, name: &[u8], t: Taken, race: u32) -> io::Result<Record>
 }
 
 // Folds one entry into the record and shows the race that it names.
-fn step(rt: &impl Print, name: &[u8], record: Record, at: u32, kind: u32, race: u32, value: u32) -> io::Result<Record> {
+fn step(
+    rt: &impl Print,
+    name: &[u8],
+    record: Record,
+    at: u32,
+    kind: u32,
+    race: u32,
+    value: u32,
+) -> io::Result<Record> {
     let index = Index(at);
     let e = Entry {
         set: 1,
@@ -105,7 +113,8 @@ fn posts(rt: &impl Print) -> io::Result<()> {
     step(rt, b"post 1", r, 9, POST, 1, 1)?;
     step(rt, b"post 86399", r, 9, POST, 1, 86399)?;
     step(rt, b"post 86400", r, 9, POST, 1, 86400)?;
-    step(rt, b"post 4294967295", r, 9, POST, 1, 4294967295)
+    step(rt, b"post 4294967295", r, 9, POST, 1, 4294967295)?;
+    Ok(())
 }
 
 fn kinds(rt: &impl Print) -> io::Result<()> {
@@ -115,7 +124,8 @@ fn kinds(rt: &impl Print) -> io::Result<()> {
     step(rt, b"kind 2", r, 9, 2, 1, 350)?;
     step(rt, b"kind 3", r, 9, 3, 1, 350)?;
     step(rt, b"kind 4", r, 9, 4, 1, 350)?;
-    step(rt, b"kind 5", r, 9, 5, 1, 350)
+    step(rt, b"kind 5", r, 9, 5, 1, 350)?;
+    Ok(())
 }
 
 fn races(rt: &impl Print) -> io::Result<()> {
@@ -124,7 +134,8 @@ fn races(rt: &impl Print) -> io::Result<()> {
     step(rt, b"odds to race 1", r, 9, ODDS, 1, 350)?;
     step(rt, b"odds to race 12", r, 9, ODDS, 12, 350)?;
     step(rt, b"odds to race 13", r, 9, ODDS, 13, 350)?;
-    step(rt, b"odds of 4294967295", r, 9, ODDS, 2, 4294967295)
+    step(rt, b"odds of 4294967295", r, 9, ODDS, 2, 4294967295)?;
+    Ok(())
 }
 
 fn after_close(rt: &impl Print) -> io::Result<()> {
@@ -133,14 +144,16 @@ fn after_close(rt: &impl Print) -> io::Result<()> {
     let c = step(rt, b"post after close", b, 3, POST, 1, 50500)?;
     let d = step(rt, b"odds after close", c, 4, ODDS, 1, 350)?;
     let e = step(rt, b"close twice", d, 5, CLOSE, 1, 0)?;
-    step(rt, b"post to another race", e, 6, POST, 12, 50600)
+    step(rt, b"post to another race", e, 6, POST, 12, 50600)?;
+    Ok(())
 }
 
 fn counts(rt: &impl Print) -> io::Result<()> {
     let mut r = Record::new();
     r.count = 4294967294;
     let full = step(rt, b"count 4294967294", r, 9, POST, 1, 50400)?;
-    step(rt, b"count 4294967295", full, 10, POST, 1, 50500)
+    step(rt, b"count 4294967295", full, 10, POST, 1, 50500)?;
+    Ok(())
 }
 
 fn slices(rt: &impl Print) -> io::Result<()> {
@@ -150,7 +163,12 @@ fn slices(rt: &impl Print) -> io::Result<()> {
     let five = [9, 1, 1, 1, 50400];
     let six = [9, 1, 1, 1, 50400, 0];
     let lower = [8, 1, 2, 1, 350];
-    show(rt, b"take of no numbers", record::take_by_value(r, &none), 1)?;
+    show(
+        rt,
+        b"take of no numbers",
+        record::take_by_value(r, &none),
+        1,
+    )?;
     show(rt, b"take of 4 numbers", record::take_by_value(r, &four), 1)?;
     show(rt, b"take of 6 numbers", record::take_by_value(r, &six), 1)?;
     let taken = show(rt, b"take of 5 numbers", record::take_by_value(r, &five), 1)?;
@@ -179,7 +197,8 @@ fn slices(rt: &impl Print) -> io::Result<()> {
         b"take of 6 numbers, full",
         record::take_by_value(full, &six),
         1,
-    )
+    )?;
+    Ok(())
 }
 
 fn stamps(rt: &impl Print) -> io::Result<()> {
