@@ -6,14 +6,14 @@ ghost use Rattle.decimal.specs.Numeral.{numeral, read_at, write_at, with_numeral
 ghost use Rattle.decimal.specs.Digit.{DigitAt};
 
 // What reading finds: a number and the place after its last digit, or no numeral of at most the bound.
-#[derive(Drop)]
+#[derive(Clone, Copy)]
 pub enum Numeral {
     Number(u32, usize),
     Nothing,
 }
 
 // What writing answers: the place after the last digit, or that the buffer has no room and nothing was written.
-#[derive(Drop)]
+#[derive(Clone, Copy)]
 pub enum Written {
     To(usize),
     NoRoom,

@@ -13,7 +13,7 @@ use window::{Answer, Window};
 
 // The player: the number of windows, the batch limit, the spacing of ticks, the last index read by the main stream, and
 // the windows. Those from the number of windows up are no part of the state.
-#[derive(Drop)]
+#[derive(Clone, Copy)]
 pub struct Player {
     pub count: u32,
     pub limit: u32,
@@ -23,7 +23,7 @@ pub struct Player {
 }
 
 // An answer beside the player as it then is.
-#[derive(Drop)]
+#[derive(Clone, Copy)]
 pub struct Played {
     pub player: Player,
     pub answer: Answer,

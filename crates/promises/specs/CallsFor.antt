@@ -135,5 +135,5 @@ calls-for is r [] made = record { calls = []; same = refl; made = tt }
 calls-for {h} {wd} is r (s ∷ ss) made =
     let c = call-for is s (and_left _ _ made) in
     let shows = subst (λ s. Shows (after c.call h) (step s wd).world) c.same (follows is r c.call c.made).shows in
-    let rest = calls-for shows (reached-step wd s r) ss (and_right (is_made (step s wd).reply) _ made) in
+    let rest = calls-for {h = after c.call h} shows (reached-step wd s r) ss (and_right (is_made (step s wd).reply) _ made) in
     record { calls = c.call ∷ rest.calls; same = ap₂ ◌∷◌ c.same rest.same; made = (c.made, rest.made) }

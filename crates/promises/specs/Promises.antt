@@ -167,8 +167,8 @@ pub take-made : (κs : Lfts 1) (a : Dens κs take-kinds.ps) (r : Taken) (s : AtE
     front.numbers ≡ a.1.0.now → Made h (take w acks r)
 take-made κs a r s p h w acks front rest own line five = rw (own, line, five) p
 
--- Take on a record lent is proved by hand, and its contract is read in the logic's own terms: what it ensures entails the same. The record
--- is lent as `a.0` and left as `s.0`.
+-- The contract of Take on a record lent is read in the logic's own terms: what it ensures entails the same. The record is lent as `a.0` and
+-- left as `s.0`.
 pub take-lent-made : {M : Type 1} {𝓤 : Ura M} (𝓛 : Logic 𝓤) (mem : Memory → SProp 𝓤) (run : Routine → Fun 𝓤)
     (κs : Lfts 2) (a : Args lent.signature κs) (r : Answer) (s : AtExit lent.ended κs)
     (h : Host) (w : ℕ) (acks : Bool) (front : Sent) (rest : List Sent) → (end_at w h).record' ≡ a.0.now → (end_at w h).line ≡ front ∷ rest →

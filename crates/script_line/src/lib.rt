@@ -7,7 +7,7 @@ ghost use Rattle.script_line.specs.Line.{same, whole, number_after, step_or, ste
 use decimal::Numeral;
 
 // The word of a step that has a window.
-#[derive(Drop)]
+#[derive(Clone, Copy)]
 pub enum Verb {
     Catch,
     Send,
@@ -19,21 +19,21 @@ pub enum Verb {
 }
 
 // A step of a script: `main`, or a word and a window of 0 to 99.
-#[derive(Drop)]
+#[derive(Clone, Copy)]
 pub enum Step {
     Main,
     At(Verb, u32),
 }
 
 // A step line: the step, or that the line is malformed.
-#[derive(Drop)]
+#[derive(Clone, Copy)]
 pub enum StepLine {
     Step(Step),
     Malformed,
 }
 
 // The first line: the number of windows, 1 to 16, or that the line is malformed.
-#[derive(Drop)]
+#[derive(Clone, Copy)]
 pub enum Windows {
     Count(u32),
     Malformed,
