@@ -1,8 +1,9 @@
 // What stands between two bytes of the input: the text and the numbers read so far; and what each byte does to them.
 use crate::show;
+use std::io;
 
 // What the next byte belongs to.
-#[derive(Drop)]
+#[derive(Clone, Copy)]
 pub(crate) enum Part {
     Label,
     Letters,
@@ -10,7 +11,7 @@ pub(crate) enum Part {
 }
 
 // The text of a case, and its last three numbers, the oldest first.
-#[derive(Drop)]
+#[derive(Clone, Copy)]
 pub(crate) struct Bench {
     text: [u8; 64],
     size: usize,
@@ -87,58 +88,66 @@ impl Bench {
     }
 
     // What a letter shows.
-    fn show(self, letter: u8) {
+    fn show(self, rt: &impl Print, letter: u8) -> io::Result<()> {
         let text = self.text;
         match letter {
-            b'r' => show::read(text, self.size, self.older as usize, narrow(self.number)),
-            b'd' => show::digits(narrow(self.number)),
+            b'r' => show::read(
+                rt,
+                text,
+                self.size,
+                self.older as usize,
+                narrow(self.number),
+            )?,
+            b'd' => show::digits(rt, narrow(self.number))?,
             b'w' => show::written(
+                rt,
                 narrow(self.oldest),
                 self.older as usize,
                 self.number as usize,
-            ),
+            )?,
             _ => {}
         }
+        Ok(())
     }
 
     // After a byte that is none of the label's and none of the text's.
-    fn letter(self, byte: u8) -> Bench {
+    fn letter(self, rt: &impl Print, byte: u8) -> io::Result<Bench> {
         if b'0' <= byte && byte <= b'9' {
-            return self.with(longer(self.number, byte - b'0'));
+            return Ok(self.with(longer(self.number, byte - b'0')));
         }
-        match byte {
+        Ok(match byte {
             b' ' => self.moved(),
             b'M' => self.with(u64::MAX),
             b'<' => self.at(Part::Text),
             b'\n' => {
-                show::byte(byte);
+                show::byte(rt, byte)?;
                 fresh()
             }
             _ => {
-                self.show(byte);
+                self.show(rt, byte)?;
                 self
             }
-        }
+        })
     }
 }
 
 // The bench after one more byte.
-pub(crate) fn feed(bench: Bench, byte: u8) -> Bench {
+pub(crate) fn feed(rt: &impl Print, bench: Bench, byte: u8) -> io::Result<Bench> {
     let part = bench.part;
-    match part {
+    Ok(match part {
         Part::Label => {
-            show::byte(byte);
+            show::byte(rt, byte)?;
             if byte == b':' {
-                return bench.at(Part::Letters);
+                return Ok(bench.at(Part::Letters));
             }
             bench
         }
-        Part::Letters => bench.letter(byte),
+        Part::Letters => bench.letter(rt, byte)?,
         Part::Text => {
             if byte == b'>' {
-                return bench.at(Part::Letters);
+                return Ok(bench.at(Part::Letters));
             }
             bench.stored(byte)
         }
-    }
+    })
 }

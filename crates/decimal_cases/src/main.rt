@@ -12,18 +12,22 @@
 mod bench;
 mod show;
 
+use std::io;
+use std::io::Read;
+
 // Plays the bytes of the cases, one after another.
-fn play(text: &[u8]) {
+fn play(rt: &impl Print, text: &[u8]) -> io::Result<()> {
     let mut bench = bench::fresh();
     let mut i = 0;
     while i < text.len() {
-        bench = bench::feed(bench, text[i]);
+        bench = bench::feed(rt, bench, text[i])?;
         i += 1;
     }
+    Ok(())
 }
 
-fn main() {
-    let mut text = io::buffer();
-    let n = io::read_full(0, &mut text);
-    play(&text[..n]);
+fn main(rt: HostRuntime) -> io::Result<()> {
+    let mut text = Vec::new(rt.alloc());
+    rt.reader().take(4096).read_to_end(&mut text)?;
+    play(&rt, &text)
 }

@@ -1,63 +1,74 @@
 // What a letter shows, each with a blank before it.
 use decimal::{Numeral, Written};
+use std::io;
 
 // A byte as it stands.
-pub(crate) fn byte(b: u8) {
-    io::write_all(1, &[b]);
+pub(crate) fn byte(rt: &impl Print, b: u8) -> io::Result<()> {
+    rt.write_all(&[b])
 }
 
 // A text, and a number.
-fn value(name: &[u8], n: u64) {
-    io::write_all(1, name);
-    io::print_decimal(1, n);
+fn value(rt: &impl Print, name: &[u8], n: u64) -> io::Result<()> {
+    rt.write_all(name)?;
+    rt.print(n)
 }
 
 // What reading found.
-fn numeral(found: Numeral) {
+fn numeral(rt: &impl Print, found: Numeral) -> io::Result<()> {
     match found {
         Numeral::Number(n, next) => {
-            value(b" ", n as u64);
-            value(b", next ", next as u64);
+            value(rt, b" ", n as u64)?;
+            value(rt, b", next ", next as u64)?;
         }
         Numeral::Nothing => {
-            io::write_all(1, b" nothing");
+            rt.write_all(b" nothing")?;
         }
     }
+    Ok(())
 }
 
 // The number that is read from the first `size` bytes of a text, with the place after it.
-pub(crate) fn read(text: [u8; 64], size: usize, at: usize, bound: u32) {
+pub(crate) fn read(
+    rt: &impl Print,
+    text: [u8; 64],
+    size: usize,
+    at: usize,
+    bound: u32,
+) -> io::Result<()> {
     if size <= 64 {
-        numeral(decimal::read(&text[0..size], at, bound));
+        numeral(rt, decimal::read(&text[0..size], at, bound))?;
     }
+    Ok(())
 }
 
 // How many digits a number has.
-pub(crate) fn digits(n: u32) {
-    value(b" ", decimal::digits(n) as u64);
+pub(crate) fn digits(rt: &impl Print, n: u32) -> io::Result<()> {
+    value(rt, b" ", decimal::digits(n) as u64)
 }
 
 // Where writing ended.
-fn ended(w: Written) {
+fn ended(rt: &impl Print, w: Written) -> io::Result<()> {
     match w {
-        Written::To(next) => value(b" next ", next as u64),
+        Written::To(next) => value(rt, b" next ", next as u64)?,
         Written::NoRoom => {
-            io::write_all(1, b" no room");
+            rt.write_all(b" no room")?;
         }
     }
+    Ok(())
 }
 
 // The place after the numeral, and sixteen bytes of which the first `size` are the buffer.
-pub(crate) fn written(n: u32, size: usize, at: usize) {
+pub(crate) fn written(rt: &impl Print, n: u32, size: usize, at: usize) -> io::Result<()> {
     let mut bytes = [b'.'; 16];
-    write_into(n, &mut bytes, size, at);
+    write_into(rt, n, &mut bytes, size, at)
 }
 
 // The same over given bytes, of which there are at least `size`.
-fn write_into(n: u32, bytes: &mut [u8], size: usize, at: usize) {
+fn write_into(rt: &impl Print, n: u32, bytes: &mut [u8], size: usize, at: usize) -> io::Result<()> {
     if size <= bytes.len() {
-        ended(decimal::write(n, &mut bytes[0..size], at));
-        byte(b' ');
-        io::write_all(1, bytes);
+        ended(rt, decimal::write(n, &mut bytes[0..size], at))?;
+        byte(rt, b' ')?;
+        rt.write_all(bytes)?;
     }
+    Ok(())
 }

@@ -1,16 +1,27 @@
 // Reading the text into the numbers, writing the numbers as text, and the pass over the numbers.
 use crate::{input, show};
+use std::io;
+use std::io::Read;
 
 // Writes the first so many numbers over so many bytes of the text.
-fn write(text: &mut [u8], journal: &[u32]) {
-    let count = input::number();
-    let room = input::number();
+fn write(
+    rt: &impl Print,
+    input: &mut impl Read,
+    text: &mut [u8],
+    journal: &[u32],
+) -> io::Result<()> {
+    let count = input::number(input)?;
+    let room = input::number(input)?;
     if journal.len() < count {
-        return;
+        return Ok(());
     }
     if room <= text.len() {
-        show::wrote(journal_text::write(&journal[0..count], &mut text[0..room]));
+        show::wrote(
+            rt,
+            journal_text::write(&journal[0..count], &mut text[0..room]),
+        )?;
     }
+    Ok(())
 }
 
 // Whether `out` is the text, and 0 after it.
@@ -36,40 +47,55 @@ fn gives(journal: &[u32], text: &[u8]) -> bool {
 }
 
 // Passes over the first so many numbers.
-fn clean(journal: &mut [u32]) {
-    let count = input::number();
+fn clean(rt: &impl Print, input: &mut impl Read, journal: &mut [u32]) -> io::Result<()> {
+    let count = input::number(input)?;
     if count <= journal.len() {
-        show::cleaned(journal_text::clean(&mut journal[0..count]));
+        show::cleaned(rt, journal_text::clean(&mut journal[0..count]))?;
     }
+    Ok(())
 }
 
 // Reads the text into the first so many numbers, as a text or as an old file, or shows whether writing these gives it.
-fn with_text(letter: u8, text: &[u8], journal: &mut [u32]) {
-    let count = input::number();
+fn with_text(
+    rt: &impl Print,
+    input: &mut impl Read,
+    letter: u8,
+    text: &[u8],
+    journal: &mut [u32],
+) -> io::Result<()> {
+    let count = input::number(input)?;
     if journal.len() < count {
-        return;
+        return Ok(());
     }
     if letter == b'r' {
-        show::read(journal_text::read(text, &mut journal[0..count]));
-        return;
+        show::read(rt, journal_text::read(text, &mut journal[0..count]))?;
+        return Ok(());
     }
     if letter == b'o' {
-        show::read(journal_text::read_old(text, &mut journal[0..count]));
-        return;
+        show::read(rt, journal_text::read_old(text, &mut journal[0..count]))?;
+        return Ok(());
     }
-    show::whether(gives(&journal[0..count], text));
+    show::whether(rt, gives(&journal[0..count], text))
 }
 
 // What a letter that reads, writes or cleans shows.
-pub(crate) fn letter(letter: u8, text: &mut [u8], size: usize, journal: &mut [u32]) {
+pub(crate) fn letter(
+    rt: &impl Print,
+    input: &mut impl Read,
+    letter: u8,
+    text: &mut [u8],
+    size: usize,
+    journal: &mut [u32],
+) -> io::Result<()> {
     match letter {
-        b'w' => write(text, journal),
-        b'c' => clean(journal),
+        b'w' => write(rt, input, text, journal)?,
+        b'c' => clean(rt, input, journal)?,
         b'r' | b'o' | b'k' => {
             if size <= text.len() {
-                with_text(letter, &text[0..size], journal);
+                with_text(rt, input, letter, &text[0..size], journal)?;
             }
         }
         _ => {}
     }
+    Ok(())
 }

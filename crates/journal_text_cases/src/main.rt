@@ -21,6 +21,10 @@ mod text;
 
 ghost use Rattle.std.specs.Prelude.{◌≡◌, length};
 
+use std::io;
+use std::io::Read;
+use std::rt::Files;
+
 // Room for a text of 65,536 lines.
 fn text_room() -> [u8; 1200000]
     ensures { 1200000 ≡ length result }
@@ -36,20 +40,26 @@ fn entry_room() -> [u32; 262144]
 }
 
 // Plays the letters of the input, of which there are at most 10,000.
-fn play(text: &mut [u8], journal: &mut [u32]) {
+fn play(
+    rt: &(impl Files + Print + Eprint),
+    input: &mut impl Read,
+    text: &mut [u8],
+    journal: &mut [u32],
+) -> io::Result<()> {
     let mut size = 0;
     let mut left: usize = 10000;
     while left > 0 {
-        let letter = input::next();
-        size = text::letter(letter, size, text);
-        numbers::letter(letter, text, size, journal);
-        calls::letter(letter, text, size, journal);
+        let letter = input::next(input)?;
+        size = text::letter(rt, input, letter, size, text)?;
+        numbers::letter(rt, input, letter, text, size, journal)?;
+        calls::letter(rt, input, letter, text, size, journal)?;
         left -= 1;
     }
+    Ok(())
 }
 
-fn main() {
+fn main(rt: HostRuntime) -> io::Result<()> {
     let mut text = text_room();
     let mut journal = entry_room();
-    play(&mut text, &mut journal);
+    play(&rt, &mut rt.reader(), &mut text, &mut journal)
 }

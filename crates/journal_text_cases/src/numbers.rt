@@ -1,27 +1,31 @@
 // The numbers of the journal, shown and stored.
 use crate::{input, show};
 use decimal::Numeral;
+use std::io;
+use std::io::Read;
 
 // Shows the number at a place, and after it a blank, or a line end where it is the last of an entry.
-fn cell(i: usize, n: u32) {
+fn cell(rt: &impl Print, i: usize, n: u32) -> io::Result<()> {
     if i % 4 == 3 {
-        show::number(n as u64, b'\n');
+        show::number(rt, n as u64, b'\n')?;
     } else {
-        show::number(n as u64, b' ');
+        show::number(rt, n as u64, b' ')?;
     }
+    Ok(())
 }
 
 // Shows the first so many numbers, four to a line.
-fn entries(journal: &[u32]) {
-    let count = input::number();
+fn entries(rt: &impl Print, input: &mut impl Read, journal: &[u32]) -> io::Result<()> {
+    let count = input::number(input)?;
     let mut i = 0;
     while i < journal.len() {
         if count <= i {
-            return;
+            return Ok(());
         }
-        cell(i, journal[i]);
+        cell(rt, i, journal[i])?;
         i += 1;
     }
+    Ok(())
 }
 
 // Fills the journal with notes to window 0.
@@ -35,12 +39,13 @@ fn fill(journal: &mut [u32]) {
 }
 
 // Stores at a place a number.
-fn store(journal: &mut [u32]) {
-    let at = input::number();
-    let n = (input::number() % 65536) as u32;
+fn store(input: &mut impl Read, journal: &mut [u32]) -> io::Result<()> {
+    let at = input::number(input)?;
+    let n = (input::number(input)? % 65536) as u32;
     if at < journal.len() {
         journal[at] = n;
     }
+    Ok(())
 }
 
 // Stores the numbers that a text shows, with a byte after each, from the journal's start on.
@@ -61,16 +66,24 @@ fn shown(text: &[u8], journal: &mut [u32]) {
 }
 
 // What a letter does to the numbers, or shows of them.
-pub(crate) fn letter(letter: u8, text: &[u8], size: usize, journal: &mut [u32]) {
+pub(crate) fn letter(
+    rt: &impl Print,
+    input: &mut impl Read,
+    letter: u8,
+    text: &[u8],
+    size: usize,
+    journal: &mut [u32],
+) -> io::Result<()> {
     match letter {
         b'n' => {
             if size <= text.len() {
                 shown(&text[0..size], journal);
             }
         }
-        b'e' => entries(journal),
+        b'e' => entries(rt, input, journal)?,
         b'f' => fill(journal),
-        b'j' => store(journal),
+        b'j' => store(input, journal)?,
         _ => {}
     }
+    Ok(())
 }

@@ -1,53 +1,56 @@
 // Prints answers, numbers and bytes.
 use journal_text::{Cleaning, Reading, Writing};
-use libc::STDOUT_FILENO;
+use std::io;
 
-pub(crate) fn byte(b: u8) {
-    io::write_all(STDOUT_FILENO, &[b]);
+pub(crate) fn byte(rt: &impl Print, b: u8) -> io::Result<()> {
+    rt.write_all(&[b])
 }
 
 // A number, and a byte after it.
-pub(crate) fn number(n: u64, after: u8) {
-    io::print_decimal(STDOUT_FILENO, n);
-    byte(after);
+pub(crate) fn number(rt: &impl Print, n: u64, after: u8) -> io::Result<()> {
+    rt.print(n)?;
+    byte(rt, after)
 }
 
-fn pair(a: u64, b: u64) {
-    number(a, b' ');
-    number(b, b'\n');
+fn pair(rt: &impl Print, a: u64, b: u64) -> io::Result<()> {
+    number(rt, a, b' ')?;
+    number(rt, b, b'\n')
 }
 
-pub(crate) fn read(r: Reading) {
+pub(crate) fn read(rt: &impl Print, r: Reading) -> io::Result<()> {
     match r {
-        Reading::Entries(n) => pair(0, n as u64),
-        Reading::BadLine(off) => pair(16, off as u64),
-        Reading::TooShort => number(17, b'\n'),
+        Reading::Entries(n) => pair(rt, 0, n as u64)?,
+        Reading::BadLine(off) => pair(rt, 16, off as u64)?,
+        Reading::TooShort => number(rt, 17, b'\n')?,
     }
+    Ok(())
 }
 
-pub(crate) fn cleaned(c: Cleaning) {
+pub(crate) fn cleaned(rt: &impl Print, c: Cleaning) -> io::Result<()> {
     match c {
-        Cleaning::Cleaned => number(0, b'\n'),
-        Cleaning::OutOfShape => number(1, b'\n'),
+        Cleaning::Cleaned => number(rt, 0, b'\n')?,
+        Cleaning::OutOfShape => number(rt, 1, b'\n')?,
     }
+    Ok(())
 }
 
-pub(crate) fn wrote(w: Writing) {
+pub(crate) fn wrote(rt: &impl Print, w: Writing) -> io::Result<()> {
     match w {
-        Writing::Bytes(n) => pair(0, n as u64),
-        Writing::OutOfShape => number(1, b'\n'),
+        Writing::Bytes(n) => pair(rt, 0, n as u64)?,
+        Writing::OutOfShape => number(rt, 1, b'\n')?,
         Writing::NoLine(i) => {
             let index = i.0;
-            pair(16, index as u64);
+            pair(rt, 16, index as u64)?;
         }
-        Writing::TooShort => number(17, b'\n'),
+        Writing::TooShort => number(rt, 17, b'\n')?,
     }
+    Ok(())
 }
 
-pub(crate) fn whether(yes: bool) {
+pub(crate) fn whether(rt: &impl Print, yes: bool) -> io::Result<()> {
     if yes {
-        io::write_all(STDOUT_FILENO, b"yes\n");
-        return;
+        rt.write_all(b"yes\n")?;
+        return Ok(());
     }
-    io::write_all(STDOUT_FILENO, b"no\n");
+    rt.write_all(b"no\n")
 }

@@ -1,45 +1,66 @@
 // The text, of whose room the first `size` bytes are in use.
 use crate::input;
-use libc::STDIN_FILENO;
+use std::io::Read;
+use std::rt::Files;
+use std::{fs, io};
+
+// Reads until the buffer is full or the input ends, and answers how many bytes came.
+fn read_full(input: &mut impl Read, buf: &mut [u8]) -> io::Result<usize> {
+    let mut end = 0;
+    while end < buf.len() {
+        let got = input.read(&mut buf[end..])?;
+        if got == 0 {
+            break;
+        }
+        end += got;
+    }
+    Ok(end)
+}
 
 // The number of bytes of the vector that the input names, read into `text`.
-fn load(text: &mut [u8]) -> usize {
+fn load<R: Files + Eprint>(rt: &R, input: &mut impl Read, text: &mut [u8]) -> io::Result<usize> {
     let mut name = [0u8; 6];
-    io::read_full(STDIN_FILENO, &mut name);
-    let fd = os::open_read(&name);
-    if fd < 0 {
-        os::fail(&name);
-        return 0;
+    read_full(input, &mut name)?;
+    let path = str::from_utf8(&name).unwrap_or("");
+    match fs::open(rt, path) {
+        Ok(mut file) => read_full(&mut file, text),
+        Err(error) => {
+            eprintln!(rt; "{path}: {error}")?;
+            Ok(0)
+        }
     }
-    let got = io::read_full(fd, text);
-    libc::close(fd);
-    got
 }
 
 // Adds the bytes up to `>`, as far as there is room, and answers the size.
-fn add(text: &mut [u8], size: usize) -> usize {
+fn add(input: &mut impl Read, text: &mut [u8], size: usize) -> io::Result<usize> {
     let mut at = size;
     while at < text.len() {
-        let b = input::next();
+        let b = input::next(input)?;
         if b == b'>' {
-            return at;
+            return Ok(at);
         }
         text[at] = b;
         at += 1;
     }
-    at
+    Ok(at)
 }
 
 // What a letter does to the text, and its size after that.
-pub(crate) fn letter(letter: u8, size: usize, text: &mut [u8]) -> usize {
-    match letter {
-        b'v' => load(text),
-        b'z' => input::number(),
-        b'<' => add(text, size),
+pub(crate) fn letter(
+    rt: &(impl Files + Print + Eprint),
+    input: &mut impl Read,
+    letter: u8,
+    size: usize,
+    text: &mut [u8],
+) -> io::Result<usize> {
+    Ok(match letter {
+        b'v' => load(rt, input, text)?,
+        b'z' => input::number(input)?,
+        b'<' => add(input, text, size)?,
         b'"' => {
-            input::label();
+            input::label(rt, input)?;
             size
         }
         _ => size,
-    }
+    })
 }

@@ -21,7 +21,7 @@ const SPACING: u32 = 1000;
 const FIRST: Term = Term(1);
 
 // The player, a record for each window, and what the host counts.
-#[derive(Drop)]
+#[derive(Clone, Copy)]
 pub(crate) struct Host {
     player: Player,
     pub(crate) records: [Record; 16],

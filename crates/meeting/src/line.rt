@@ -6,7 +6,7 @@ use record::Record;
 use window::Head;
 
 // What a batch leaves: the player, the window's record and what the host counts.
-#[derive(Drop)]
+#[derive(Clone, Copy)]
 pub(crate) struct BatchLeft {
     pub(crate) player: Player,
     pub(crate) record: Record,
@@ -14,7 +14,7 @@ pub(crate) struct BatchLeft {
 }
 
 // What taking a batch leaves: the window's record and what the host counts.
-#[derive(Drop)]
+#[derive(Clone, Copy)]
 struct RecordLeft {
     record: Record,
     tally: Tally,

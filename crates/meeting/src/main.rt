@@ -14,9 +14,10 @@ mod tally;
 ghost use Rattle.std.specs.Prelude.{◌≤◌};
 
 use host::Host;
+use std::io;
 
 // Plays a meeting and prints how it ends.
-fn play(windows: u32, entries: u32, limit: u32)
+fn play(rt: &impl Print, windows: u32, entries: u32, limit: u32) -> io::Result<()>
     requires { (windows ≤ 16) × (entries ≤ 65535) }
 {
     let mut numbers = [0; 262140];
@@ -28,20 +29,20 @@ fn play(windows: u32, entries: u32, limit: u32)
     let tally = end.tally;
     if tally.refused == 0 {
         let records = end.records;
-        output::windows(records, windows);
+        output::windows(rt, records, windows)?;
     } else {
-        output::line(b"refused ", tally.refused);
+        output::line(rt, b"refused ", tally.refused)?;
     }
-    output::line(b"calls ", tally.calls);
+    output::line(rt, b"calls ", tally.calls)
 }
 
-fn main() {
-    let windows = arguments::number(1, 1, 16);
-    let entries = arguments::number(2, 0, 65535);
-    let limit = arguments::number(3, 1, 32);
-    if os::arg_count() == 4 && windows.ok && entries.ok && limit.ok {
-        play(windows.number, entries.number, limit.number);
+fn main(rt: HostRuntime) -> io::Result<()> {
+    let windows = arguments::number(&rt, 1, 1, 16);
+    let entries = arguments::number(&rt, 2, 0, 65535);
+    let limit = arguments::number(&rt, 3, 1, 32);
+    if !arguments::has(&rt, 4) && windows.ok && entries.ok && limit.ok {
+        play(&rt, windows.number, entries.number, limit.number)
     } else {
-        output::usage();
+        output::usage(&rt)
     }
 }

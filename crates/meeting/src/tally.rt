@@ -2,7 +2,7 @@
 use window::Answer;
 
 // How many calls were made, how many batches were sent, and the number of the first answer that is a refusal, or 0.
-#[derive(Drop)]
+#[derive(Clone, Copy)]
 pub(crate) struct Tally {
     pub(crate) calls: u64,
     pub(crate) batches: u64,

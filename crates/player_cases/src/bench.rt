@@ -2,9 +2,10 @@
 use crate::line::Line;
 use crate::state::State;
 use crate::{ask, line, show, state};
+use std::io;
 
 // The state at which a line starts, that of the case, and the line so far.
-#[derive(Drop)]
+#[derive(Clone, Copy)]
 pub(crate) struct Bench {
     start: State,
     state: State,
@@ -22,29 +23,29 @@ pub(crate) fn first() -> Bench {
 }
 
 // The state after one more byte, of which a letter can change it.
-fn after(bench: Bench, zeros: &[u32], byte: u8) -> State {
+fn after(rt: &impl Print, bench: Bench, zeros: &[u32], byte: u8) -> io::Result<State> {
     let n = bench.line;
     if n.naming || byte == b'\n' {
-        show::byte(byte);
-        return bench.start;
+        show::byte(rt, byte)?;
+        return Ok(bench.start);
     }
     let state = bench.state;
-    let asked = ask::letter(state, zeros, n, byte);
-    state::set(asked, n, byte)
+    let asked = ask::letter(rt, state, zeros, n, byte)?;
+    Ok(state::set(asked, n, byte))
 }
 
 // The bench after one more byte.
-pub(crate) fn feed(bench: Bench, zeros: &[u32], byte: u8) -> Bench {
+pub(crate) fn feed(rt: &impl Print, bench: Bench, zeros: &[u32], byte: u8) -> io::Result<Bench> {
     let n = bench.line;
     let line = n.fed(byte);
-    let state = after(bench, zeros, byte);
+    let state = after(rt, bench, zeros, byte)?;
     if byte == b'=' {
-        return Bench {
+        return Ok(Bench {
             start: state,
             state,
             line,
-        };
+        });
     }
     let start = bench.start;
-    Bench { start, state, line }
+    Ok(Bench { start, state, line })
 }

@@ -1,5 +1,5 @@
 // A line of the input: whether its label is still being read, and its last four numbers, the oldest first.
-#[derive(Drop)]
+#[derive(Clone, Copy)]
 pub(crate) struct Line {
     pub(crate) naming: bool,
     pub(crate) a: u32,

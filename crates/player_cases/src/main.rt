@@ -34,6 +34,9 @@ mod windows;
 
 ghost use Rattle.std.specs.Prelude.{◌≡◌, length};
 
+use std::io;
+use std::io::Read;
+
 // Room for 65,536 entries.
 fn zeros() -> [u32; 262144]
     ensures { 262144 ≡ length result }
@@ -42,18 +45,19 @@ fn zeros() -> [u32; 262144]
 }
 
 // Plays the bytes of the cases, one after another.
-fn play(text: &[u8], zeros: &[u32]) {
+fn play(rt: &impl Print, text: &[u8], zeros: &[u32]) -> io::Result<()> {
     let mut bench = bench::first();
     let mut i = 0;
     while i < text.len() {
-        bench = bench::feed(bench, zeros, text[i]);
+        bench = bench::feed(rt, bench, zeros, text[i])?;
         i += 1;
     }
+    Ok(())
 }
 
-fn main() {
+fn main(rt: HostRuntime) -> io::Result<()> {
     let zeros = zeros();
-    let mut text = io::large_buffer();
-    let n = io::read_full(0, &mut text);
-    play(&text[..n], &zeros);
+    let mut text = Vec::new(rt.alloc());
+    rt.reader().take(65536).read_to_end(&mut text)?;
+    play(&rt, &text, &zeros)
 }

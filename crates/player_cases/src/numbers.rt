@@ -1,5 +1,5 @@
 // Numbers of any size that a call is lent: those of a journal, or reports.
-#[derive(Drop)]
+#[derive(Clone, Copy)]
 pub(crate) struct Numbers {
     pub(crate) cells: [u32; 128],
     pub(crate) len: usize,

@@ -8,7 +8,7 @@ use window::Window;
 
 // The player, the numbers of the journal, the reports and the first term for Start, and the place of the window that
 // letters change.
-#[derive(Drop)]
+#[derive(Clone, Copy)]
 pub(crate) struct State {
     pub(crate) player: Player,
     pub(crate) journal: Numbers,

@@ -1,9 +1,10 @@
 // What stands between two bytes of the input: a queue, batches and the numbers read so far; and what each byte does to them.
 use crate::show;
 use queue::{Batches, Queue};
+use std::io;
 
 // The queue and the batches of a case, the last number, the one before it, and whether the label is still being read.
-#[derive(Drop)]
+#[derive(Clone, Copy)]
 pub(crate) struct Bench {
     pub(crate) queue: Queue,
     pub(crate) batches: Batches,
@@ -78,8 +79,15 @@ fn handed(x: u32, n: usize) -> Bench {
 }
 
 // What a letter does, or shows.
-fn letter(q: Queue, b: Batches, number: u64, before: u64, byte: u8) -> Bench {
-    match byte {
+fn letter(
+    rt: &impl Print,
+    q: Queue,
+    b: Batches,
+    number: u64,
+    before: u64,
+    byte: u8,
+) -> io::Result<Bench> {
+    Ok(match byte {
         b'p' => made(q.push(index_of(number)), b.push(index_of(number))),
         b's' => made(q.skip(number as usize), b),
         b'k' => made(q, b.above(index_of(number))),
@@ -90,30 +98,30 @@ fn letter(q: Queue, b: Batches, number: u64, before: u64, byte: u8) -> Bench {
         b'M' => within(q, b, u64::MAX, before),
         b' ' => within(q, b, 0, number),
         _ => {
-            show::queue(q, number as usize, index_of(number), byte);
-            show::batches(b, number as usize, index_of(number), byte);
+            show::queue(rt, q, number as usize, index_of(number), byte)?;
+            show::batches(rt, b, number as usize, index_of(number), byte)?;
             made(q, b)
         }
-    }
+    })
 }
 
 // The bench after one more byte.
-pub(crate) fn feed(bench: Bench, byte: u8) -> Bench {
+pub(crate) fn feed(rt: &impl Print, bench: Bench, byte: u8) -> io::Result<Bench> {
     let q = bench.queue;
     let b = bench.batches;
     if byte == b'\n' {
-        show::byte(byte);
-        return fresh();
+        show::byte(rt, byte)?;
+        return Ok(fresh());
     }
     if bench.naming {
-        show::byte(byte);
+        show::byte(rt, byte)?;
         if byte == b':' {
-            return made(q, b);
+            return Ok(made(q, b));
         }
-        return bench;
+        return Ok(bench);
     }
     if b'0' <= byte && byte <= b'9' {
-        return within(q, b, longer(bench.number, byte - b'0'), bench.before);
+        return Ok(within(q, b, longer(bench.number, byte - b'0'), bench.before));
     }
-    letter(q, b, bench.number, bench.before, byte)
+    letter(rt, q, b, bench.number, bench.before, byte)
 }

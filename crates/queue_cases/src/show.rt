@@ -1,78 +1,96 @@
 // What a letter shows, each with a blank before it.
 use queue::{Batches, Queue};
+use std::io;
 
 // A byte as it stands.
-pub(crate) fn byte(b: u8) {
-    io::write_all(1, &[b]);
+pub(crate) fn byte(rt: &impl Print, b: u8) -> io::Result<()> {
+    rt.write_all(&[b])
 }
 
 // A blank, and a number.
-fn value(n: u64) {
-    byte(b' ');
-    io::print_decimal(1, n);
+fn value(rt: &impl Print, n: u64) -> io::Result<()> {
+    byte(rt, b' ')?;
+    rt.print(n)
 }
 
-fn answer(yes: bool) {
+fn answer(rt: &impl Print, yes: bool) -> io::Result<()> {
     if yes {
-        io::write_all(1, b" yes");
+        rt.write_all(b" yes")?;
     } else {
-        io::write_all(1, b" no");
+        rt.write_all(b" no")?;
     }
+    Ok(())
 }
 
 // The index at the place k, where there is one.
-fn index(q: Queue, k: usize) {
+fn index(rt: &impl Print, q: Queue, k: usize) -> io::Result<()> {
     if k < q.size() {
-        value(q.item(k) as u64);
+        value(rt, q.item(k) as u64)?;
     }
+    Ok(())
 }
 
 // Up to four of a queue's indices.
-fn indices(q: Queue) {
-    index(q, 0);
-    index(q, 1);
-    index(q, 2);
-    index(q, 3);
+fn indices(rt: &impl Print, q: Queue) -> io::Result<()> {
+    index(rt, q, 0)?;
+    index(rt, q, 1)?;
+    index(rt, q, 2)?;
+    index(rt, q, 3)
 }
 
 // What a letter shows of a queue; nothing where it is none of these.
-pub(crate) fn queue(q: Queue, at: usize, bound: u32, letter: u8) {
+pub(crate) fn queue(
+    rt: &impl Print,
+    q: Queue,
+    at: usize,
+    bound: u32,
+    letter: u8,
+) -> io::Result<()> {
     match letter {
-        b'i' => indices(q),
-        b'z' => value(q.size() as u64),
-        b'a' => value(q.item(at) as u64),
-        b'w' => answer(q.within(bound)),
+        b'i' => indices(rt, q)?,
+        b'z' => value(rt, q.size() as u64)?,
+        b'a' => value(rt, q.item(at) as u64)?,
+        b'w' => answer(rt, q.within(bound))?,
         _ => {}
     }
+    Ok(())
 }
 
 // The last index of the batch at the place k, where there is one.
-fn batch(b: Batches, k: usize) {
+fn batch(rt: &impl Print, b: Batches, k: usize) -> io::Result<()> {
     if k < b.size() {
-        value(b.item(k) as u64);
+        value(rt, b.item(k) as u64)?;
     }
+    Ok(())
 }
 
 // Up to nine of the batches.
-fn row(b: Batches) {
-    batch(b, 0);
-    batch(b, 1);
-    batch(b, 2);
-    batch(b, 3);
-    batch(b, 4);
-    batch(b, 5);
-    batch(b, 6);
-    batch(b, 7);
-    batch(b, 8);
+fn row(rt: &impl Print, b: Batches) -> io::Result<()> {
+    batch(rt, b, 0)?;
+    batch(rt, b, 1)?;
+    batch(rt, b, 2)?;
+    batch(rt, b, 3)?;
+    batch(rt, b, 4)?;
+    batch(rt, b, 5)?;
+    batch(rt, b, 6)?;
+    batch(rt, b, 7)?;
+    batch(rt, b, 8)
 }
 
 // What a letter shows of batches; nothing where it is none of these.
-pub(crate) fn batches(b: Batches, at: usize, bound: u32, letter: u8) {
+pub(crate) fn batches(
+    rt: &impl Print,
+    b: Batches,
+    at: usize,
+    bound: u32,
+    letter: u8,
+) -> io::Result<()> {
     match letter {
-        b'I' => row(b),
-        b'Z' => value(b.size() as u64),
-        b'A' => value(b.item(at) as u64),
-        b'W' => answer(b.within(bound)),
+        b'I' => row(rt, b)?,
+        b'Z' => value(rt, b.size() as u64)?,
+        b'A' => value(rt, b.item(at) as u64)?,
+        b'W' => answer(rt, b.within(bound))?,
         _ => {}
     }
+    Ok(())
 }

@@ -3,6 +3,7 @@
 
 use journal::{Entry, Index};
 use record::{Race, Record, Taken};
+use std::io;
 
 const POST: u32 = 1;
 
@@ -47,36 +48,44 @@ fn race_of(races: [Race; 12], race: u32) -> Race {
     races[(race - 1) as usize]
 }
 
-fn field(name: &[u8], n: u32) {
-    io::write_all(1, name);
-    io::print_decimal(1, n as u64);
+fn field(rt: &impl Print, name: &[u8], n: u32) -> io::Result<()> {
+    rt.write_all(name)?;
+    rt.print(n as u64)
 }
 
 // Writes the case's name, the answer, the record's last index and count, the number of races touched, and one race.
-fn show(name: &[u8], t: Taken, race: u32) -> Record {
+fn show(rt: &impl Print, name: &[u8], t: Taken, race: u32) -> io::Result<Record> {
     let answer = t.answer;
     let record = t.record;
     let last = record.last;
     let races = record.races;
     let x = race_of(races, race);
-    io::write_all(1, name);
-    field(b": answer ", answer.number());
-    field(b", last ", last.0);
-    field(b", count ", record.count);
-    field(b", touched ", count_touched(races));
-    field(b", race ", race);
-    field(b" off ", x.off);
-    field(b" price ", x.price);
+    rt.write_all(name)?;
+    field(rt, b": answer ", answer.number())?;
+    field(rt, b", last ", last.0)?;
+    field(rt, b", count ", record.count)?;
+    field(rt, b", touched ", count_touched(races))?;
+    field(rt, b", race ", race)?;
+    field(rt, b" off ", x.off)?;
+    field(rt, b" price ", x.price)?;
     if x.closed {
-        io::write_all(1, b" closed\n");
+        rt.write_all(b" closed\n")?;
     } else {
-        io::write_all(1, b" open\n");
+        rt.write_all(b" open\n")?;
     }
-    record
+    Ok(record)
 }
 
 // Folds one entry into the record and shows the race that it names.
-fn step(name: &[u8], record: Record, at: u32, kind: u32, race: u32, value: u32) -> Record {
+fn step(
+    rt: &impl Print,
+    name: &[u8],
+    record: Record,
+    at: u32,
+    kind: u32,
+    race: u32,
+    value: u32,
+) -> io::Result<Record> {
     let index = Index(at);
     let e = Entry {
         set: 1,
@@ -85,120 +94,136 @@ fn step(name: &[u8], record: Record, at: u32, kind: u32, race: u32, value: u32) 
         value,
     };
     let t = record.fold(index, e);
-    show(name, t, race)
+    Ok(show(rt, name, t, race)?)
 }
 
-fn stamp(name: &[u8], record: Record, race: u32, second: u32) {
-    io::write_all(1, name);
+fn stamp(rt: &impl Print, name: &[u8], record: Record, race: u32, second: u32) -> io::Result<()> {
+    rt.write_all(name)?;
     if record.may_stamp(race, second) {
-        io::write_all(1, b": stamped\n");
+        rt.write_all(b": stamped\n")?;
     } else {
-        io::write_all(1, b": not stamped\n");
+        rt.write_all(b": not stamped\n")?;
     }
+    Ok(())
 }
 
-fn posts() {
+fn posts(rt: &impl Print) -> io::Result<()> {
     let r = Record::new();
-    step(b"post 0", r, 9, POST, 1, 0);
-    step(b"post 1", r, 9, POST, 1, 1);
-    step(b"post 86399", r, 9, POST, 1, 86399);
-    step(b"post 86400", r, 9, POST, 1, 86400);
-    step(b"post 4294967295", r, 9, POST, 1, 4294967295);
+    step(rt, b"post 0", r, 9, POST, 1, 0)?;
+    step(rt, b"post 1", r, 9, POST, 1, 1)?;
+    step(rt, b"post 86399", r, 9, POST, 1, 86399)?;
+    step(rt, b"post 86400", r, 9, POST, 1, 86400)?;
+    step(rt, b"post 4294967295", r, 9, POST, 1, 4294967295)?;
+    Ok(())
 }
 
-fn kinds() {
+fn kinds(rt: &impl Print) -> io::Result<()> {
     let r = Record::new();
-    step(b"kind 0", r, 9, 0, 1, 350);
-    step(b"kind 1", r, 9, 1, 1, 350);
-    step(b"kind 2", r, 9, 2, 1, 350);
-    step(b"kind 3", r, 9, 3, 1, 350);
-    step(b"kind 4", r, 9, 4, 1, 350);
-    step(b"kind 5", r, 9, 5, 1, 350);
+    step(rt, b"kind 0", r, 9, 0, 1, 350)?;
+    step(rt, b"kind 1", r, 9, 1, 1, 350)?;
+    step(rt, b"kind 2", r, 9, 2, 1, 350)?;
+    step(rt, b"kind 3", r, 9, 3, 1, 350)?;
+    step(rt, b"kind 4", r, 9, 4, 1, 350)?;
+    step(rt, b"kind 5", r, 9, 5, 1, 350)?;
+    Ok(())
 }
 
-fn races() {
+fn races(rt: &impl Print) -> io::Result<()> {
     let r = Record::new();
-    step(b"odds to race 0", r, 9, ODDS, 0, 350);
-    step(b"odds to race 1", r, 9, ODDS, 1, 350);
-    step(b"odds to race 12", r, 9, ODDS, 12, 350);
-    step(b"odds to race 13", r, 9, ODDS, 13, 350);
-    step(b"odds of 4294967295", r, 9, ODDS, 2, 4294967295);
+    step(rt, b"odds to race 0", r, 9, ODDS, 0, 350)?;
+    step(rt, b"odds to race 1", r, 9, ODDS, 1, 350)?;
+    step(rt, b"odds to race 12", r, 9, ODDS, 12, 350)?;
+    step(rt, b"odds to race 13", r, 9, ODDS, 13, 350)?;
+    step(rt, b"odds of 4294967295", r, 9, ODDS, 2, 4294967295)?;
+    Ok(())
 }
 
-fn after_close() {
-    let a = step(b"post 50400", Record::new(), 1, POST, 1, 50400);
-    let b = step(b"close", a, 2, CLOSE, 1, 0);
-    let c = step(b"post after close", b, 3, POST, 1, 50500);
-    let d = step(b"odds after close", c, 4, ODDS, 1, 350);
-    let e = step(b"close twice", d, 5, CLOSE, 1, 0);
-    step(b"post to another race", e, 6, POST, 12, 50600);
+fn after_close(rt: &impl Print) -> io::Result<()> {
+    let a = step(rt, b"post 50400", Record::new(), 1, POST, 1, 50400)?;
+    let b = step(rt, b"close", a, 2, CLOSE, 1, 0)?;
+    let c = step(rt, b"post after close", b, 3, POST, 1, 50500)?;
+    let d = step(rt, b"odds after close", c, 4, ODDS, 1, 350)?;
+    let e = step(rt, b"close twice", d, 5, CLOSE, 1, 0)?;
+    step(rt, b"post to another race", e, 6, POST, 12, 50600)?;
+    Ok(())
 }
 
-fn counts() {
+fn counts(rt: &impl Print) -> io::Result<()> {
     let mut r = Record::new();
     r.count = 4294967294;
-    let full = step(b"count 4294967294", r, 9, POST, 1, 50400);
-    step(b"count 4294967295", full, 10, POST, 1, 50500);
+    let full = step(rt, b"count 4294967294", r, 9, POST, 1, 50400)?;
+    step(rt, b"count 4294967295", full, 10, POST, 1, 50500)?;
+    Ok(())
 }
 
-fn slices() {
+fn slices(rt: &impl Print) -> io::Result<()> {
     let r = Record::new();
     let none: [u32; 0] = [];
     let four = [9, 1, 1, 1];
     let five = [9, 1, 1, 1, 50400];
     let six = [9, 1, 1, 1, 50400, 0];
     let lower = [8, 1, 2, 1, 350];
-    show(b"take of no numbers", record::take_by_value(r, &none), 1);
-    show(b"take of 4 numbers", record::take_by_value(r, &four), 1);
-    show(b"take of 6 numbers", record::take_by_value(r, &six), 1);
-    let taken = show(b"take of 5 numbers", record::take_by_value(r, &five), 1);
     show(
+        rt,
+        b"take of no numbers",
+        record::take_by_value(r, &none),
+        1,
+    )?;
+    show(rt, b"take of 4 numbers", record::take_by_value(r, &four), 1)?;
+    show(rt, b"take of 6 numbers", record::take_by_value(r, &six), 1)?;
+    let taken = show(rt, b"take of 5 numbers", record::take_by_value(r, &five), 1)?;
+    show(
+        rt,
         b"take of a lower index",
         record::take_by_value(taken, &lower),
         1,
-    );
+    )?;
     show(
+        rt,
         b"take of 4 numbers again",
         record::take_by_value(taken, &four),
         1,
-    );
+    )?;
     let mut full = taken;
     full.count = 4294967295;
     show(
+        rt,
         b"take of 5 numbers, full",
         record::take_by_value(full, &lower),
         1,
-    );
+    )?;
     show(
+        rt,
         b"take of 6 numbers, full",
         record::take_by_value(full, &six),
         1,
-    );
+    )?;
+    Ok(())
 }
 
-fn stamps() {
+fn stamps(rt: &impl Print) -> io::Result<()> {
     let r = Record::new();
-    stamp(b"stamp with off 0 at 0", r, 1, 0);
-    let a = step(b"post 50400", r, 1, POST, 1, 50400);
-    stamp(b"stamp at off - 1", a, 1, 50399);
-    stamp(b"stamp at off", a, 1, 50400);
-    stamp(b"stamp at 0", a, 1, 0);
-    stamp(b"stamp race 0", a, 0, 0);
-    stamp(b"stamp race 2", a, 2, 0);
-    stamp(b"stamp race 13", a, 13, 0);
-    let b = step(b"post 1", a, 2, POST, 12, 1);
-    stamp(b"stamp race 12 at 0", b, 12, 0);
-    stamp(b"stamp race 12 at 1", b, 12, 1);
-    let c = step(b"close", b, 3, CLOSE, 1, 0);
-    stamp(b"stamp closed at off - 1", c, 1, 50399);
+    stamp(rt, b"stamp with off 0 at 0", r, 1, 0)?;
+    let a = step(rt, b"post 50400", r, 1, POST, 1, 50400)?;
+    stamp(rt, b"stamp at off - 1", a, 1, 50399)?;
+    stamp(rt, b"stamp at off", a, 1, 50400)?;
+    stamp(rt, b"stamp at 0", a, 1, 0)?;
+    stamp(rt, b"stamp race 0", a, 0, 0)?;
+    stamp(rt, b"stamp race 2", a, 2, 0)?;
+    stamp(rt, b"stamp race 13", a, 13, 0)?;
+    let b = step(rt, b"post 1", a, 2, POST, 12, 1)?;
+    stamp(rt, b"stamp race 12 at 0", b, 12, 0)?;
+    stamp(rt, b"stamp race 12 at 1", b, 12, 1)?;
+    let c = step(rt, b"close", b, 3, CLOSE, 1, 0)?;
+    stamp(rt, b"stamp closed at off - 1", c, 1, 50399)
 }
 
-fn main() {
-    posts();
-    kinds();
-    races();
-    after_close();
-    counts();
-    slices();
-    stamps();
+fn main(rt: HostRuntime) -> io::Result<()> {
+    posts(&rt)?;
+    kinds(&rt)?;
+    races(&rt)?;
+    after_close(&rt)?;
+    counts(&rt)?;
+    slices(&rt)?;
+    stamps(&rt)
 }

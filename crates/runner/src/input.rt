@@ -1,8 +1,9 @@
-// Lines from a file descriptor, by way of a buffer of fixed size.
-ghost use Rattle.std.specs.Prelude.{◌+◌, ◌≤◌, ◌≡◌, length};
+// Lines from an input, by way of a buffer of fixed size.
+ghost use Rattle.std.specs.Prelude.{◌+◌, ◌≤◌, ◌≡◌, length, IfOk};
 ghost use Rattle.runner.specs.Places.{Places};
 
-use libc::STDOUT_FILENO;
+use std::io;
+use std::io::Read;
 
 // The most bytes of a step line that are looked at for its LF. No step line has so many.
 const LONGEST: usize = 16;
@@ -56,34 +57,33 @@ fn step_end(buf: &[u8], from: usize, to: usize) -> usize
 }
 
 // Reads once, to the place `end`, and answers how many bytes came: 0 at the end of the input.
-fn read_at(fd: i32, buf: &mut [u8], end: usize) -> usize
+fn read_at(input: &mut impl Read, buf: &mut [u8], end: usize) -> io::Result<usize>
     requires { end ≤ length buf.old }
-    ensures { end + result ≤ length buf.old }
+    ensures { IfOk result (λ n. end + n ≤ length buf.old) }
 {
-    let got = libc::read(fd, &mut buf[end..]);
-    io::count(got, &buf[end..])
+    input.read(&mut buf[end..])
 }
 
 // Reads until a line is `run`, the buffer is full or the input ends.
-pub(crate) fn find_run(fd: i32, buf: &mut [u8]) -> Run
-    ensures { Places result.at result.next result.end buf.old }
+pub(crate) fn find_run(input: &mut impl Read, buf: &mut [u8]) -> io::Result<Run>
+    ensures { IfOk result (λ run. Places run.at run.next run.end buf.old) }
 {
     let mut at = 0;
     let mut end = 0;
     loop {
         let lf = line_end(buf, at, end);
         if lf == end {
-            let got = read_at(fd, buf, end);
+            let got = read_at(input, buf, end)?;
             if got == 0 {
-                return Run { at, next: at, end };
+                return Ok(Run { at, next: at, end });
             }
             end += got;
         } else if script_line::is_run(&buf[at..lf]) {
-            return Run {
+            return Ok(Run {
                 at,
                 next: lf + 1,
                 end,
-            };
+            });
         } else {
             at = lf + 1;
         }
@@ -105,52 +105,53 @@ fn move_front(buf: &mut [u8], at: usize, end: usize) -> usize
 }
 
 // Reads on from a line that has no LF yet, until it has one, it is too long or the input ends. Nothing of the output waits.
-fn read_line(fd: i32, buf: &mut [u8], at: usize, end: usize) -> Line
+fn read_line(input: &mut impl Read, buf: &mut [u8], at: usize, end: usize) -> io::Result<Line>
     requires { (at ≤ end) × (end ≤ length buf.old) }
-    ensures { Places result.at result.lf result.end buf.old × (result.used ≡ 0) }
+    ensures { IfOk result (λ line. Places line.at line.lf line.end buf.old × (line.used ≡ 0)) }
 {
     let mut n = move_front(buf, at, end);
     while n < LONGEST {
-        let got = read_at(fd, buf, n);
+        let got = read_at(input, buf, n)?;
         if got == 0 {
             break;
         }
         n += got;
         let lf = step_end(buf, 0, n);
         if lf < n {
-            return Line {
+            return Ok(Line {
                 at: 0,
                 lf,
                 end: n,
                 used: 0,
-            };
+            });
         }
     }
-    Line {
+    Ok(Line {
         at: 0,
         lf: n,
         end: n,
         used: 0,
-    }
+    })
 }
 
 // The line that begins at `at`. Where it is not whole in the buffer, the output that waits is written before more is read.
 pub(crate) fn next_line(
-    fd: i32,
+    rt: &impl Print,
+    input: &mut impl Read,
     buf: &mut [u8],
     at: usize,
     end: usize,
     out: &[u8],
     used: usize,
-) -> Line
+) -> io::Result<Line>
     requires at_le_end { (at ≤ end) × (end ≤ length buf.old) }
     requires used_in_bounds { used ≤ length out.now }
-    ensures { Places result.at result.lf result.end buf.old × (result.used ≤ used) }
+    ensures { IfOk result (λ line. Places line.at line.lf line.end buf.old × (line.used ≤ used)) }
 {
     let lf = step_end(buf, at, end);
     if lf < end {
-        return Line { at, lf, end, used };
+        return Ok(Line { at, lf, end, used });
     }
-    io::write_all(STDOUT_FILENO, &out[0..used]);
-    read_line(fd, buf, at, end)
+    rt.write_all(&out[0..used])?;
+    read_line(input, buf, at, end)
 }

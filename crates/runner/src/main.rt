@@ -8,50 +8,55 @@ mod input;
 mod output;
 mod play;
 
-use libc::{STDIN_FILENO, STDOUT_FILENO};
+use std::env::{Env, FillError};
+use std::rt::Files;
+use std::{fs, io};
 
 // Plays the file of a name, or says why it cannot be opened.
-fn play_file(name: &[u8]) {
-    let fd = os::open_read(name);
-    if fd < 0 {
-        os::fail(name);
-        return;
+fn play_file(rt: &(impl Files + Print + Eprint), name: &str) -> io::Result<()> {
+    match fs::open(rt, name) {
+        Ok(mut file) => play::play(rt, &mut file),
+        Err(error) => eprintln!(rt; "{name}: {error}"),
     }
-    play::play(fd);
-    libc::close(fd);
 }
 
 // Plays the input of a name, after a line with the name. `-` is standard input.
-fn play_named(name: &[u8]) {
-    io::write_all(STDOUT_FILENO, name);
-    io::write_all(STDOUT_FILENO, b"\n");
+fn play_named(rt: &(impl Files + Input + Print + Eprint), name: &[u8]) -> io::Result<()> {
+    rt.write_all(name)?;
+    rt.write_all(b"\n")?;
     if check::same(name, b"-") {
-        play::play(STDIN_FILENO);
-    } else {
-        play_file(name);
+        return play::play(rt, &mut rt.reader());
+    }
+    match str::from_utf8(name) {
+        Ok(name) => play_file(rt, name),
+        Err(_) => rt.eprintln("argument: not UTF-8"),
     }
 }
 
 // Plays the input that an argument names, or says why there is no such name.
-fn play_argument(i: usize) {
-    let mut name = io::buffer();
-    let length = os::arg(i, &mut name);
-    if os::errno() != 0 {
-        os::fail(b"argument");
-        return;
+fn play_argument(rt: &(impl Env + Files + Input + Print + Eprint), i: usize) -> io::Result<()> {
+    let mut name = [0u8; 4096];
+    match rt.arg(i, &mut name) {
+        Ok(length) => play_named(rt, &name[..length]),
+        Err(_) => rt.eprintln("argument: too long"),
     }
-    play_named(&name[..length]);
 }
 
-fn main() {
-    let count = os::arg_count();
-    if count < 2 {
-        play::play(STDIN_FILENO);
-        return;
+// Whether there is an argument i.
+fn has_argument(rt: &impl Env, i: usize) -> bool {
+    let mut none = [0u8; 0];
+    !matches!(rt.arg(i, &mut none), Err(FillError::NotPresent))
+}
+
+fn main(rt: HostRuntime) -> io::Result<()> {
+    if !has_argument(&rt, 1) {
+        return play::play(&rt, &mut rt.reader());
     }
-    let mut i = 1;
-    while i < count {
-        play_argument(i);
-        i += 1;
+    for i in 1..usize::MAX {
+        if !has_argument(&rt, i) {
+            break;
+        }
+        play_argument(&rt, i)?;
     }
+    Ok(())
 }

@@ -1,83 +1,102 @@
 // Answers, collected in a buffer and written to standard output when it is full.
-ghost use Rattle.std.specs.Prelude.{◌≤◌, length};
+ghost use Rattle.std.specs.Prelude.{◌≤◌, length, IfOk};
 ghost use Rattle.runner.specs.Places.{Waiting};
 
-use libc::STDOUT_FILENO;
+use itoa::Buffer;
 use script::{Reply, Stage};
+use std::io;
 
 // Puts a byte after the `used` first ones of the buffer, once these are written where the buffer is full, and answers how many there are.
-fn put(out: &mut [u8], used: usize, byte: u8) -> usize
+fn put(rt: &impl Print, out: &mut [u8], used: usize, byte: u8) -> io::Result<usize>
     requires { Waiting used out.old }
-    ensures { result ≤ length out.old }
+    ensures { IfOk result (λ n. n ≤ length out.old) }
 {
     if used < out.len() {
         out[used] = byte;
-        return used + 1;
+        return Ok(used + 1);
     }
-    io::write_all(STDOUT_FILENO, out);
+    rt.write_all(out)?;
     out[0] = byte;
-    1
+    Ok(1)
 }
 
-fn put_text(out: &mut [u8], used: usize, text: &[u8]) -> usize
+fn put_text(rt: &impl Print, out: &mut [u8], used: usize, text: &[u8]) -> io::Result<usize>
     requires { Waiting used out.old }
-    ensures { result ≤ length out.old }
+    ensures { IfOk result (λ n. n ≤ length out.old) }
 {
     let mut now = used;
     let mut i = 0;
     while i < text.len() {
-        now = put(out, now, text[i]);
+        now = put(rt, out, now, text[i])?;
         i += 1;
     }
-    now
+    Ok(now)
 }
 
-fn put_number(out: &mut [u8], used: usize, n: u64) -> usize
+fn put_number(rt: &impl Print, out: &mut [u8], used: usize, n: u64) -> io::Result<usize>
     requires { Waiting used out.old }
-    ensures { result ≤ length out.old }
+    ensures { IfOk result (λ n. n ≤ length out.old) }
 {
-    let mut digits = [0u8; 20];
-    let k = io::decimal(n, &mut digits);
-    put_text(out, used, &digits[..k])
+    let mut digits = Buffer::new();
+    put_text(rt, out, used, digits.format(n).as_bytes())
 }
 
-fn put_reply(out: &mut [u8], used: usize, reply: Reply) -> usize
+fn put_reply(rt: &impl Print, out: &mut [u8], used: usize, reply: Reply) -> io::Result<usize>
     requires { Waiting used out.old }
-    ensures { result ≤ length out.old }
+    ensures { IfOk result (λ n. n ≤ length out.old) }
 {
     match reply {
-        Reply::Answered(number) => put_number(out, used, number as u64),
-        Reply::Empty => put(out, used, b'-'),
+        Reply::Answered(number) => put_number(rt, out, used, number as u64),
+        Reply::Empty => put(rt, out, used, b'-'),
     }
 }
 
 // Puts a step's number and its answer, a line.
-pub(crate) fn put_answer(out: &mut [u8], used: usize, number: u64, reply: Reply) -> usize
+pub(crate) fn put_answer(
+    rt: &impl Print,
+    out: &mut [u8],
+    used: usize,
+    number: u64,
+    reply: Reply,
+) -> io::Result<usize>
     requires { Waiting used out.old }
-    ensures { result ≤ length out.old }
+    ensures { IfOk result (λ n. n ≤ length out.old) }
 {
-    let after_number = put_number(out, used, number);
-    let after_blank = put(out, after_number, b' ');
-    let after_answer = put_reply(out, after_blank, reply);
-    put(out, after_answer, b'\n')
+    let after_number = put_number(rt, out, used, number)?;
+    let after_blank = put(rt, out, after_number, b' ')?;
+    let after_answer = put_reply(rt, out, after_blank, reply)?;
+    put(rt, out, after_answer, b'\n')
 }
 
 // Puts a window's number, its last index and its count, a line.
-fn put_window(out: &mut [u8], used: usize, w: usize, last: u32, count: u32) -> usize
+fn put_window(
+    rt: &impl Print,
+    out: &mut [u8],
+    used: usize,
+    w: usize,
+    last: u32,
+    count: u32,
+) -> io::Result<usize>
     requires { Waiting used out.old }
-    ensures { result ≤ length out.old }
+    ensures { IfOk result (λ n. n ≤ length out.old) }
 {
-    let after_word = put_text(out, used, b"window ");
-    let after_number = put_number(out, after_word, w as u64);
-    let after_blank = put(out, after_number, b' ');
-    let after_last = put_number(out, after_blank, last as u64);
-    let before_count = put(out, after_last, b' ');
-    let after_count = put_number(out, before_count, count as u64);
-    put(out, after_count, b'\n')
+    let after_word = put_text(rt, out, used, b"window ")?;
+    let after_number = put_number(rt, out, after_word, w as u64)?;
+    let after_blank = put(rt, out, after_number, b' ')?;
+    let after_last = put_number(rt, out, after_blank, last as u64)?;
+    let before_count = put(rt, out, after_last, b' ')?;
+    let after_count = put_number(rt, out, before_count, count as u64)?;
+    put(rt, out, after_count, b'\n')
 }
 
 // Puts a line for each window and writes all that waits.
-pub(crate) fn put_windows(out: &mut [u8], used: usize, stage: Stage, count: u32)
+pub(crate) fn put_windows(
+    rt: &impl Print,
+    out: &mut [u8],
+    used: usize,
+    stage: Stage,
+    count: u32,
+) -> io::Result<()>
     requires { Waiting used out.old }
 {
     let records = stage.records;
@@ -89,16 +108,16 @@ pub(crate) fn put_windows(out: &mut [u8], used: usize, stage: Stage, count: u32)
         }
         let record = records[w];
         let last = record.last;
-        now = put_window(out, now, w, last.0, record.count);
+        now = put_window(rt, out, now, w, last.0, record.count)?;
         w += 1;
     }
-    io::write_all(STDOUT_FILENO, &out[0..now]);
+    rt.write_all(&out[0..now])
 }
 
 // Puts the line `bad` and writes all that waits.
-pub(crate) fn refuse(out: &mut [u8], used: usize)
+pub(crate) fn refuse(rt: &impl Print, out: &mut [u8], used: usize) -> io::Result<()>
     requires { Waiting used out.old }
 {
-    let end = put_text(out, used, b"bad\n");
-    io::write_all(STDOUT_FILENO, &out[0..end]);
+    let end = put_text(rt, out, used, b"bad\n")?;
+    rt.write_all(&out[0..end])
 }

@@ -8,73 +8,84 @@ use crate::output::{put_answer, put_windows, refuse};
 use journal_text::Reading;
 use script::Stage;
 use script_line::{StepLine, Windows};
+use std::io;
+use std::io::Read;
 
-// Reads an input from a file descriptor and writes the answers to standard output. A head with 2,000 entries has at most 58,918 bytes,
+// Reads an input and writes the answers to standard output. A head with 2,000 entries has at most 58,918 bytes,
 // so where no line of the first 65,536 bytes is `run` the input is malformed.
-pub(crate) fn play(fd: i32) {
-    let mut buf = io::large_buffer();
-    let run = input::find_run(fd, &mut buf);
-    let mut out = io::buffer();
+pub(crate) fn play(rt: &impl Print, input: &mut impl Read) -> io::Result<()> {
+    let mut buf = [0u8; 65536];
+    let run = input::find_run(input, &mut buf)?;
+    let mut out = [0u8; 4096];
     if run.next == run.at {
-        refuse(&mut out, 0);
-        return;
+        return refuse(rt, &mut out, 0);
     }
-    play_head(fd, &mut buf, run, &mut out);
+    play_head(rt, input, &mut buf, run, &mut out)
 }
 
 // Reads the first line of an input whose `run` line is found, and goes on after it.
-fn play_head(fd: i32, buf: &mut [u8], run: Run, out: &mut [u8])
+fn play_head(
+    rt: &impl Print,
+    input: &mut impl Read,
+    buf: &mut [u8],
+    run: Run,
+    out: &mut [u8],
+) -> io::Result<()>
     requires { Places run.at run.next run.end buf.old × Waiting 0 out.old }
 {
     let at = run.at;
     let first = input::line_end(buf, 0, at);
     if first == at {
-        refuse(out, 0);
-        return;
+        return refuse(rt, out, 0);
     }
     let Windows::Count(count) = script_line::read_windows(&buf[0..first]) else {
-        refuse(out, 0);
-        return;
+        return refuse(rt, out, 0);
     };
-    play_journal(fd, buf, run, first + 1, count, out);
+    play_journal(rt, input, buf, run, first + 1, count, out)
 }
 
 // Reads the journal, which begins at `from` and ends before the `run` line, and plays the steps after that.
-fn play_journal(fd: i32, buf: &mut [u8], run: Run, from: usize, count: u32, out: &mut [u8])
+fn play_journal(
+    rt: &impl Print,
+    input: &mut impl Read,
+    buf: &mut [u8],
+    run: Run,
+    from: usize,
+    count: u32,
+    out: &mut [u8],
+) -> io::Result<()>
     requires places { Places run.at run.next run.end buf.old × Waiting 0 out.old }
     requires from_le_at { from ≤ run.at }
 {
     let at = run.at;
     let mut numbers = [0u32; 8000];
     let Reading::Entries(n) = journal_text::read(&buf[from..at], &mut numbers) else {
-        refuse(out, 0);
-        return;
+        return refuse(rt, out, 0);
     };
     if 2000 < n {
-        refuse(out, 0);
-        return;
+        return refuse(rt, out, 0);
     }
     let size = n * 4;
     let journal = &numbers[0..size];
     let opened = Stage::open(journal, count);
     if !opened.ok {
-        refuse(out, 0);
-        return;
+        return refuse(rt, out, 0);
     }
-    play_steps(fd, buf, run, journal, opened.stage, count, out);
+    play_steps(rt, input, buf, run, journal, opened.stage, count, out)
 }
 
 // Plays the steps after the `run` line, one line after another. A proved loop has to end, and nothing says that an input does, so it
 // counts its turns down from a number that no run uses up.
 fn play_steps(
-    fd: i32,
+    rt: &impl Print,
+    input: &mut impl Read,
     buf: &mut [u8],
     run: Run,
     journal: &[u32],
     opened: Stage,
     count: u32,
     out: &mut [u8],
-)
+) -> io::Result<()>
     requires { Places run.at run.next run.end buf.old × Waiting 0 out.old }
 {
     let mut stage = opened;
@@ -84,28 +95,26 @@ fn play_steps(
     let mut turns = u64::MAX;
     while turns > 0 {
         turns -= 1;
-        let line = input::next_line(fd, buf, at, end, out, used);
+        let line = input::next_line(rt, input, buf, at, end, out, used)?;
         let start = line.at;
         let lf = line.lf;
         end = line.end;
         used = line.used;
         if lf == end {
             if start == end {
-                put_windows(out, used, stage, count);
-            } else {
-                refuse(out, used);
+                return put_windows(rt, out, used, stage, count);
             }
-            return;
+            return refuse(rt, out, used);
         }
         at = lf + 1;
         let StepLine::Step(step) = script_line::read_step(&buf[start..lf]) else {
-            refuse(out, used);
-            return;
+            return refuse(rt, out, used);
         };
         let stepped = stage.step(journal, step);
         let next = stepped.stage;
         stage = next;
         let reply = stepped.reply;
-        used = put_answer(out, used, u64::MAX - turns, reply);
+        used = put_answer(rt, out, used, u64::MAX - turns, reply)?;
     }
+    Ok(())
 }

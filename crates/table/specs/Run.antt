@@ -1,21 +1,20 @@
 -- Document 01, "One run, whole": the run that the paper shows, by the runner's own steps.
-use Rattle.std.specs.Prelude.{◌≡◌, refl, List, [], ◌∷◌, map, true}
-use Rattle.std.proofs.Common.{ap, ◌∙◌}
+use Rattle.std.specs.Prelude.{◌≡◌, List, [], ◌∷◌, map, true}
 use Rattle.journal.specs.Entry.{numbers_of}
 use Rattle.record.specs.declared.Record.{Record}
 use Rattle.rules.specs.View.{PlayerView}
 use Rattle.delivery.specs.World.{World, side_at, answered, run, replies}
 use Rattle.delivery.specs.World as W
 use Rattle.delivery.specs.Statement.{first_world}
-use Rattle.delivery.proofs.Examples.{computed, done, Shown, nobody, afternoon}
+use Rattle.delivery.proofs.Examples.{done, Shown, afternoon}
 use Rattle.script_line.specs.declared.Step.{Step}
 use Rattle.script_line.specs.declared.Step.TheVariants.{Main, At}
 use Rattle.script_line.specs.declared.Verb.TheVariants.{Catch, Send, Drop, Join, Take}
 use Rattle.script.specs.declared.Stage.{Stage}
 use Rattle.script.specs.declared.Reply.{Reply}
 use Rattle.script.specs.Stage.{steps_in, reply_of, record_in}
-use Rattle.script.specs.Opening.{run_settings, opening_answer, opened_by}
-use Rattle.scripts.specs.Delivered.{Script, script-runs}
+use Rattle.script.specs.Opening.{run_settings, opened_by}
+use Rattle.scripts.specs.Delivered.{Script}
 
 -- the ten steps after `run`
 abbrev pub afternoon_steps : List Step
@@ -43,30 +42,8 @@ RunA before =
     let last : World = run first (steps_in first afternoon_steps) in
     PrintsA (replies first (steps_in first afternoon_steps)) (side_at 0 last).record' (side_at 1 last).record'
 
-pub row-a : (before : PlayerView) → RunA before
-unfolding computed steps_in
-row-a before = record { answers = refl; window0 = refl; window1 = refl }
-
 -- by the calls: the stage is opened, and whatever gives what `Stage::step` promises gives this
 pub record StageA : Type 0 where
   pub ok : (opened_by (numbers_of afternoon) 2).ok ≡ true
   pub prints : (rs : List Reply) (t : Stage) → Script (numbers_of afternoon) (opened_by (numbers_of afternoon) 2).stage afternoon_steps rs t →
       PrintsA (map reply_of rs) (record_in 0 t) (record_in 1 t)
-
-opened-a : (opened_by (numbers_of afternoon) 2).ok ≡ true
-unfolding computed opening_answer
-opened-a = refl
-
-pub row-a-stage : StageA
-unfolding computed
-row-a-stage = record {
-  ok = opened-a;
-  prints = λ rs t script.
-      let runs = script-runs (numbers_of afternoon) 2 nobody opened-a t afternoon_steps rs script in
-      let by = row-a nobody in
-      record {
-        answers = runs.replied ∙ by.answers;
-        window0 = ap shown_of (runs.records 0) ∙ by.window0;
-        window1 = ap shown_of (runs.records 1) ∙ by.window1;
-      };
-}

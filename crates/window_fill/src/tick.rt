@@ -32,6 +32,7 @@ fn is_behind(sent: Index, spacing: u32, index: Index) -> bool
 
 // Whether this window is quiet: Normal, both queues empty, no batch unacknowledged, the line free, and sent so far
 // behind.
+#[tactic(auto, unfolding(window::specs::View::view_of))]
 fn is_quiet(window: Window, spacing: u32, index: Index) -> bool
     ensures { result ≡ is_quiet spacing index.0 (view_of window) }
 {
@@ -61,6 +62,7 @@ fn is_quiet(window: Window, spacing: u32, index: Index) -> bool
 }
 
 // The window with the index, a multiple of the spacing, in its normal queue where it is quiet.
+#[tactic(auto, unfolding(window::specs::View::view_of, rules::specs::Window::tick_at))]
 pub(crate) fn tick_at(window: Window, spacing: u32, index: Index) -> Window
     requires index_value { fits_cell index.0 ≡ true }
     requires spacing_value { index.0 % spacing ≡ 0 }

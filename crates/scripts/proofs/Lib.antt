@@ -1,0 +1,3 @@
+-- The laws, proved of the definitions of specs/.
+pub mod Tickless
+pub mod Delivered

@@ -1,0 +1,4 @@
+-- The laws, proved of the definitions of specs/.
+pub mod Run
+pub mod States
+pub mod Table
