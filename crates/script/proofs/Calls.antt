@@ -28,8 +28,8 @@ use Rattle.script.specs.declared.Stepped.{Stepped}
 use Rattle.script.specs.Stage.{world_of, forgotten, due_in, step_in, reply_of, window_of, line_in}
 use Rattle.script.specs.Promise.{playable, Playable, Steps}
 use Rattle.script.specs.Stored.{slot_in, outcome_at, index_after, settled_as, stored_by}
-use Rattle.script.specs.Worlds.{world_of-numbers, world_of-forgotten, Staged, world_of-player, world_of-side, world_of-called}
-use Rattle.script.specs.Worlds.{stored_at-same}
+use Rattle.script.proofs.Worlds.{world_of-numbers, world_of-forgotten, Staged, world_of-player, world_of-side, world_of-called}
+use Rattle.script.proofs.Worlds.{stored_at-same}
 
 -- ------------------------------------------------------------------------
 -- playable, Steps

@@ -1,5 +1,5 @@
 -- The step Send: the numbers that it wrote are those of the entries that the world puts on the line.
-use Rattle.std.specs.Prelude.{ℕ, ◌-◌, ◌≤◌, ◌≡◌, refl, List, [], ◌∷◌, ◌++◌, map, true, false, length, drop, replicate, leb}
+use Rattle.std.specs.Prelude.{ℕ, ◌≤◌, ◌≡◌, refl, List, [], ◌∷◌, ◌++◌, map, true, false, length, drop, replicate, leb}
 use Rattle.std.proofs.Common.{sym, ap₂, ◌∙◌, true≢false, arith, eq-eqb, ne_eqb, leb-true}
 use Rattle.std.proofs.Math.Path.{ap}
 use Rattle.std.proofs.lemmas.List.{map-append}
@@ -26,9 +26,9 @@ use Rattle.script.specs.Line.{world_sent, world_ack, sent_in, acks_in, batch_sho
 use Rattle.script.specs.Stage.{world_of, step_in, line_in}
 use Rattle.script.specs.Promise.{Steps}
 use Rattle.script.specs.Stored.{slot_in, outcome_at, output_at, Relined, stored_by}
-use Rattle.script.specs.Worlds.{player_of-count, changed, Staged, world_of-player, world_of-side}
-use Rattle.script.specs.Calls.{rule-here}
-use Rattle.script.specs.Settled.{line-here, back-here, lines-side, turned-steps}
+use Rattle.script.proofs.Worlds.{player_of-count, changed, Staged, world_of-player, world_of-side}
+use Rattle.script.proofs.Calls.{rule-here}
+use Rattle.script.proofs.Settled.{line-here, back-here, lines-side, turned-steps}
 
 -- ------------------------------------------------------------------------
 -- send_output

@@ -15,9 +15,9 @@ use Rattle.script.specs.declared.Reply.TheVariants.{Answered, Empty}
 use Rattle.script.specs.Stage.{window_of}
 use Rattle.script.specs.Promise.{playable, Steps, Plays}
 use Rattle.script.specs.Stored.{slot_in, has_room, lacks, early_at}
-use Rattle.script.specs.Worlds.{Staged}
-use Rattle.script.specs.Calls.{playable-facts}
-use Rattle.script.specs.Settled.{take-nothing, ack-nothing}
+use Rattle.script.proofs.Worlds.{Staged}
+use Rattle.script.proofs.Calls.{playable-facts}
+use Rattle.script.proofs.Settled.{take-nothing, ack-nothing}
 
 -- a reply with which the stage is as it was
 pub plays-still : (ns : List ℕ) (s : Stage) (st : Step) (y : Reply) → length s.records ≡ 16 → length s.lines ≡ 16 →

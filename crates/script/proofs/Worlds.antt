@@ -26,12 +26,12 @@ use Rattle.delivery.proofs.Offers.{with_windows, with_player-window, with_side-h
 use Rattle.script.specs.declared.line.Line.{Line}
 use Rattle.script.specs.declared.Stage.{Stage}
 use Rattle.lists.specs.Cells.{front}
-use Rattle.lists.specs.Set.{get_d_any}
+use Rattle.lists.specs.Set.{get_or-any}
 use Rattle.script.specs.Line.{sent_in, acks_in, fresh_line}
 use Rattle.script.specs.Stage.{side_of, sides_of, world_with, world_of, forget, forgotten, record_in, line_in}
 use Rattle.script.specs.Stored.{absent, present, slot_in, stored_at}
-use Rattle.script.specs.Sides.{sides_of-length, sides_of-forget, sides_of-views, sides_of-at, sides_of-set, sides_of-with}
-use Rattle.script.specs.Sides.{forgotten-player, forgotten-side}
+use Rattle.script.proofs.Sides.{sides_of-length, sides_of-forget, sides_of-views, sides_of-at, sides_of-set, sides_of-with}
+use Rattle.script.proofs.Sides.{forgotten-player, forgotten-side}
 
 -- ------------------------------------------------------------------------
 -- the player
@@ -173,8 +173,8 @@ slot_in-present s h windows w x r l here =
     rw (
       lt-ltb w s.player.count here,
       window_at-here s.player w x here (omega arith),
-      get_d_any s.records w r new_record (omega arith),
-      get_d_any s.lines w l fresh_line (omega arith),
+      get_or-any s.records w r new_record (omega arith),
+      get_or-any s.lines w l fresh_line (omega arith),
     )
 
 -- either, by whether the window is one of the player's

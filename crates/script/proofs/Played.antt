@@ -29,13 +29,13 @@ use Rattle.script.specs.declared.Stepped.{Stepped}
 use Rattle.script.specs.Stage.{world_of, window_of, line_in}
 use Rattle.script.specs.Promise.{playable, is_refusal, Steps, Plays}
 use Rattle.script.specs.Stored.{slot_in, lacks, outcome_at, output_at, Settles, stored_by}
-use Rattle.script.specs.Worlds.{player_of-count, changed, Staged}
-use Rattle.script.specs.Calls.{playable-facts, operate-count, refused-steps, called-steps, main-calls, catch-calls, written-calls}
-use Rattle.script.specs.Calls.{drop-calls}
-use Rattle.script.specs.Settled.{line_in-within, join-calls, join-steps, without_ack, ack-calls, ack-steps}
-use Rattle.script.specs.Takes.{take_steps}
-use Rattle.script.specs.Sends.{with_batch, send-calls, send-steps}
-use Rattle.script.specs.Early.{plays-still}
+use Rattle.script.proofs.Worlds.{player_of-count, changed, Staged}
+use Rattle.script.proofs.Calls.{playable-facts, operate-count, refused-steps, called-steps, main-calls, catch-calls, written-calls}
+use Rattle.script.proofs.Calls.{drop-calls}
+use Rattle.script.proofs.Settled.{line_in-within, join-calls, join-steps, without_ack, ack-calls, ack-steps}
+use Rattle.script.proofs.Takes.{take_steps}
+use Rattle.script.proofs.Sends.{with_batch, send-calls, send-steps}
+use Rattle.script.proofs.EarlyLaws.{plays-still}
 
 -- ------------------------------------------------------------------------
 -- Made

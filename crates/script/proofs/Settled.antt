@@ -30,8 +30,8 @@ use Rattle.script.specs.Line.{no_ack, world_sent, world_ack, sent_in, acks_in, f
 use Rattle.script.specs.Stage.{side_of, world_of, forget, forgotten, step_in, record_in, line_in}
 use Rattle.script.specs.Promise.{Steps}
 use Rattle.script.specs.Stored.{slot_in, outcome_at, settled_as, Relined, stored_by}
-use Rattle.script.specs.Worlds.{player_of-count, changed, world_of-forgotten, world_of-count, Staged, world_of-side, world_of-turned}
-use Rattle.script.specs.Calls.{steps-as, rule-here}
+use Rattle.script.proofs.Worlds.{player_of-count, changed, world_of-forgotten, world_of-count, Staged, world_of-side, world_of-turned}
+use Rattle.script.proofs.Calls.{steps-as, rule-here}
 
 -- a line that is not empty is a window's
 pub line_in-within : (s : Stage) (w : ℕ) (size : Line → ℕ) → size fresh_line ≡ 0 → 0 < size (line_in w s) → w < s.player.count

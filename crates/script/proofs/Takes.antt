@@ -25,9 +25,9 @@ use Rattle.script.specs.Line.{placed_of, no_sent, world_sent, world_ack, sent_in
 use Rattle.script.specs.Stage.{side_of, world_of, forget, reply_of, line_in}
 use Rattle.script.specs.Promise.{Steps}
 use Rattle.script.specs.Stored.{slot_in, Takes, stored_by}
-use Rattle.script.specs.Worlds.{world_of-count, world_of-forgets, Staged, world_of-side, world_of-placed}
-use Rattle.script.specs.Calls.{steps-as}
-use Rattle.script.specs.Settled.{line_in-within, line-here}
+use Rattle.script.proofs.Worlds.{world_of-count, world_of-forgets, Staged, world_of-side, world_of-placed}
+use Rattle.script.proofs.Calls.{steps-as}
+use Rattle.script.proofs.Settled.{line_in-within, line-here}
 
 -- the window that is there changes nothing
 window_same : (w : ℕ) (p : PlayerView) → p ≡ with_window w (window_at w p) p
