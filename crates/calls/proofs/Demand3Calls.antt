@@ -50,7 +50,8 @@ own_fives-of w [] = refl
 own_fives-of w (x ∷ xs) = by (is_own w x) (own_fives-of w xs)
   where
     by : (b : Bool) → own_fives w (map five_of xs) ≡ map five_of (own_of w xs) →
-        cond b (five_of x ∷ own_fives w (map five_of xs)) (own_fives w (map five_of xs)) ≡ map five_of (cond b (x ∷ own_of w xs) (own_of w xs))
+        cond b (five_of x ∷ own_fives w (map five_of xs)) (own_fives w (map five_of xs))
+        ≡ map five_of (cond b (x ∷ own_of w xs) (own_of w xs))
     by true e = ap (λ l. five_of x ∷ l) e
     by false e = e
 

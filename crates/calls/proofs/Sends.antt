@@ -28,7 +28,8 @@ batch_in-on_line j w t a (x ∷ []) more some r = rw (eq-eqb (sent_for j w x).in
 batch_in-on_line j w t a (x ∷ y ∷ xs) more some r =
     let other : ((sent_for j w x).index ≡ last_or y xs → ⊥) = λ e. omega (arith, sent_for-index j w x, r.2.0, r.2.1) in
     rw (ne_eqb (sent_for j w x).index (last_or y xs) other)
-    (ap (λ l. in_numbers (record { placed = sent_for j w x; term = t; ends = false }) ∷ l) (batch_in-on_line j w t x (y ∷ xs) more refl r.2))
+    (ap (λ l. in_numbers (record { placed = sent_for j w x; term = t; ends = false }) ∷ l)
+    (batch_in-on_line j w t x (y ∷ xs) more refl r.2))
 
 -- ------------------------------------------------------------------------
 -- The batch of a reached world rises

@@ -86,7 +86,8 @@ module _ {h : Host} {wd : World} (is : Shows h wd) where
   }
 
   -- a window's end and its side
-  pub shows-side : (w : ℕ) (d : WindowEnd) (p : Side) → d ≡ end_of p → p.view ≡ (side_at w wd).view → Shows (with_end w d h) (with_side w p wd)
+  pub shows-side : (w : ℕ) (d : WindowEnd) (p : Side) → d ≡ end_of p → p.view ≡ (side_at w wd).view →
+      Shows (with_end w d h) (with_side w p wd)
   shows-side w d p e same = record {
     player =
         is.player ∙ sym (with_side-player w p wd ∙ ap (λ v. with_window w v (player_in wd)) same ∙ with_window-same w wd);

@@ -106,8 +106,8 @@ put_on batch d = with_lines (d.line ++ batch) d.back d
 -- A call: what it was handed beside the player, record and journal, and then what it gave back. Send is lent an output and leaves `out`.
 -- Take is lent the front entry of its window's line, Ack is handed the front ack, Join the window's last index, and Start W and the last
 -- index of each window, of which that of a silent one is not looked at: the host has no choice there. It chooses the settings of a Start. A
--- Take says whether it acks an entry that is not the last of its batch. `late-ack` is an Ack offer of an older term. An append is the host's
--- own.
+-- Take says whether it acks an entry that is not the last of its batch. `late-ack` is an Ack offer of an older term. An append is the
+-- host's own.
 pub data Call : Type 0 where
   main : (index : Index) (gave : Played) → Call
   catch : (w : ℕ) (t : Term) (index : Index) (gave : Played) → Call

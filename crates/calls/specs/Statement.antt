@@ -109,7 +109,8 @@ pub record Delivers (count silent : ℕ) (h : Host) (calls : List Call) : Type 0
   pub bound : AllJoined count silent h calls → changes 0 h calls ≤ count_of (host_after h calls).journal * (1 + 5 * count)
   -- with all windows joined, when none can, every window has taken all of its own entries
   pub finish : AllJoined count silent h calls → NoneCan (host_after h calls) →
-      (w : ℕ) → w < count → own_fives w (end_at w (host_after h calls)).taken ≡ map five_of (own (entries_of (host_after h calls).journal) w)
+      (w : ℕ) → w < count → own_fives w (end_at w (host_after h calls)).taken ≡ map five_of
+      (own (entries_of (host_after h calls).journal) w)
 
 -- what the first Start gives meets its promise: it is handed the reports of new windows, and whatever player there was before
 abbrev pub FirstStart : Player → List ℕ → (count : ℕ) → Settings → Played → Type 0

@@ -1,5 +1,6 @@
 -- Decimal numerals as bytes: the numeral of a number, and what reading and writing one at a place of a text answer.
-use Rattle.std.specs.Prelude.{ℕ, zero, suc, ◌+◌, ◌*◌, ◌-◌, ◌/◌, ◌%◌, List, [], ◌∷◌, ◌++◌, Bool, true, false, not, cond, ◌&&◌, length, drop, leb, ltb, eqb}
+use Rattle.std.specs.Prelude.{ℕ, zero, suc, ◌+◌, ◌*◌, ◌-◌, ◌/◌, ◌%◌, List, [], ◌∷◌, ◌++◌}
+use Rattle.std.specs.Prelude.{Bool, true, false, not, cond, ◌&&◌, length, drop, leb, ltb, eqb}
 use Rattle.lists.specs.All.{between}
 use Rattle.lists.specs.Over.{over}
 use Rattle.decimal.specs.declared.Numeral.{Numeral}

@@ -1,7 +1,9 @@
 -- Laws of numerals and their values: a numeral is made of digits, is canonical and has its number as its value, and digits that are
 -- canonical are the numeral of their value.
-use Rattle.std.specs.Prelude.{ℕ, zero, suc, ◌+◌, ◌*◌, ◌-◌, ◌/◌, ◌%◌, ◌^◌, ◌≤◌, ◌<◌, ◌≡◌, refl, List, [], ◌∷◌, ◌++◌, Bool, true, false, length, drop, ltb, eqb}
-use Rattle.std.proofs.Common.{arith, le_refl, pow-suc, sym, ◌∙◌, ap, append-nil, append_assoc, length-append, lt-ltb, le-ltb, le-leb, ne_eqb, ltb-true, ltb-false}
+use Rattle.std.specs.Prelude.{ℕ, zero, suc, ◌+◌, ◌*◌, ◌-◌, ◌/◌, ◌%◌, ◌^◌, ◌≤◌, ◌<◌, ◌≡◌}
+use Rattle.std.specs.Prelude.{refl, List, [], ◌∷◌, ◌++◌, Bool, true, false, length, drop, ltb, eqb}
+use Rattle.std.proofs.Common.{arith, le_refl, pow-suc, sym, ◌∙◌, ap, append-nil, append_assoc}
+use Rattle.std.proofs.Common.{length-append, lt-ltb, le-ltb, le-leb, ne_eqb, ltb-true, ltb-false}
 use Rattle.std.proofs.lemmas.Bool.{false≢true, eqb-false, not-true}
 use Rattle.lists.specs.All.{between-bounds}
 use Rattle.decimal.specs.Numeral.{is_digit, lead_digits, value_from, canonical, numeral, numeral_by}

@@ -85,7 +85,8 @@ pub record FirstTerms : Type 0 where
   pub last_held : (start_on 4294967295).next.windows ≡ idle 4294967295 0 0 normal ∷ idle 4294967295 0 0 suspended ∷ []
   pub silent_join : (join_rule [] 1 0 (start_on 4294967295).next).answer ≡ 14
   pub dropped_join : (join_rule [] 0 0 (drop_rule [] 0 (start_on 4294967295).next).next).answer ≡ 14
-  pub join_before : (join_rule [] 1 0 (start_on 4294967294).next).next.windows ≡ idle 4294967294 0 0 normal ∷ idle 4294967295 0 0 normal ∷ []
+  pub join_before : (join_rule [] 1 0 (start_on 4294967294).next).next.windows
+      ≡ idle 4294967294 0 0 normal ∷ idle 4294967295 0 0 normal ∷ []
 
 pub first-terms : FirstTerms
 unfolding start_rule join_rule join_at drop_rule drop_at operate check shape window_shape all said_from spoken least entries_of has_window

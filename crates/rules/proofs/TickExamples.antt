@@ -161,5 +161,6 @@ pub record TicksIndex : Type 0 where
   pub started : start_answer 1 3 2 ≡ 0
 
 pub ticks-index : TicksIndex
-unfolding start_rule said_from ack_rule ack_at join_rule join_at operate check shape window_shape all numbers_of entries_of is_for entry_at has_window
+unfolding start_rule said_from ack_rule ack_at join_rule join_at operate check shape window_shape all numbers_of entries_of
+    is_for entry_at has_window
 ticks-index = record { other = refl; acked = refl; joined = refl; started = refl }

@@ -1,7 +1,8 @@
 -- Laws of lines: what a word and a number read as, and that nothing else does.
 use Prim.{Unit, tt}
 use Rattle.std.specs.Prelude.{ℕ, ◌+◌, ◌≤◌, ◌<◌, ◌≡◌, refl, List, [], ◌∷◌, ◌++◌, Bool, true, false, ◌&&◌, cond, length, take, drop, eqb, leb}
-use Rattle.std.proofs.Common.{sym, ap, ap₂, ◌∙◌, append-nil, eq-eqb, eqb-true, le-leb, leb-true, arith, length-append, length-take, take-append-drop}
+use Rattle.std.proofs.Common.{sym, ap, ap₂, ◌∙◌, append-nil, eq-eqb, eqb-true}
+use Rattle.std.proofs.Common.{le-leb, leb-true, arith, length-append, length-take, take-append-drop}
 use Rattle.std.proofs.Math.Bool.{and-eq-true_iff}
 use Rattle.std.proofs.lemmas.Bool.{false≢true}
 use Rattle.std.proofs.Math.Seq.{take-append_seam, drop-append_seam, drop-length}
