@@ -163,4 +163,8 @@ pub premise-met : PremiseMet
 unfolding computed counting
 premise-met =
     let reached : Reached one_entry = opened-reached nobody (entry4 3 1 1 50400 ∷ []) 2 (chosen 1 0) one-started in
-    record { joined0 = refl; joined1 = refl; none = none_left (run one_entry five_moves) (reached-run one_entry five_moves reached) none-to-do }
+    record {
+      joined0 = refl;
+      joined1 = refl;
+      none = none_left (run one_entry five_moves) (reached-run one_entry five_moves reached) none-to-do;
+    }

@@ -25,8 +25,8 @@ unfolding
     replies_by run_by step_by opened with_views with_player on_line take_front
     start_rule said_from sent_for spoken least main_rule catch_rule written_rule ack_rule drop_rule join_rule send_rule operate map_windows
     shape window_shape all
-    check enqueue read_at tick_at main_at fetched catch_in catch_at ready_in batch_of launched send_at written_at ack_at drop_at join_at above
-    race_after races_after record_after take_entry take_numbers
+    check enqueue read_at tick_at main_at fetched catch_in catch_at ready_in batch_of launched send_at written_at ack_at drop_at join_at
+    above race_after races_after record_after take_entry take_numbers
     numbers_of entries_of entry_at has_window is_for own
 computed = tt
 

@@ -86,7 +86,8 @@ silenced {j} first p taken = record {
 
 -- a window as Start leaves it: `current` is not above the report of one that speaks
 pub keep-start : {j : List Entry} {c w : ℕ} (first : Term) (silent : ℕ) (p : Side) → Taken j w p.record' p.taken →
-    (speaks silent w ≡ true → c ≤ last_of p) → Inv j c w (cleared (with_view (started_by first (length j) (said_by silent w (last_of p))) p))
+    (speaks silent w ≡ true → c ≤ last_of p) →
+    Inv j c w (cleared (with_view (started_by first (length j) (said_by silent w (last_of p))) p))
 keep-start {j} {c} {w} first silent p taken low = by (speaks silent w) low
   where
     by : (b : Bool) → (b ≡ true → c ≤ last_of p) →

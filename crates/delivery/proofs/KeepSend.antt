@@ -53,8 +53,11 @@ unacked-more {t} {acked} {last} {sent} {batches} {line} {back} j w xs some low u
       batches_rise =
           rising-append acked sent l batches (l ∷ []) (omega (arith, un.acked_last)) (omega arith) un.batches_rise (up, le_refl l, tt);
       batches_out = λ x h.
-          rw (ends_of-append line (on_line j w t xs), on_line-ends j w t xs some, ← append_assoc (back_indices back) (ends_of line) (l ∷ []))
-          (elem-grown x batches (back_indices back ++ ends_of line) (l ∷ []) (un.batches_out x) h);
+          rw (
+            ends_of-append line (on_line j w t xs),
+            on_line-ends j w t xs some,
+            ← append_assoc (back_indices back) (ends_of line) (l ∷ []),
+          ) (elem-grown x batches (back_indices back ++ ends_of line) (l ∷ []) (un.batches_out x) h);
       no_batches = λ h. absurd (true≢false (sym h));
       newest = λ h. last_or-append acked batches (l ∷ []);
     }

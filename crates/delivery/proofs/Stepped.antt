@@ -185,7 +185,8 @@ module _ (wd : World) (shaped : shape (numbers_in wd) (player_in wd) ≡ true) w
   pub facts-catch : (w : ℕ) (t : Term) (i : ℕ) → Facts (catch w t i) wd
   facts-catch w t i = call_facts (catch-call w t i).call (λ n. refl) (λ e. works-facts wd w (catch w t i) refl (catch-works w t i e))
 
-  written-call : (w : ℕ) (t : Term) → CallAt (written w t) wd w (written_rule (numbers_in wd) w t (player_in wd)) (written_effect t) (λ p. p)
+  written-call : (w : ℕ) (t : Term) →
+      CallAt (written w t) wd w (written_rule (numbers_in wd) w t (player_in wd)) (written_effect t) (λ p. p)
   unfolding step_by
   written-call w t = call-alone (written_rule-lawful (numbers_in wd) w t (player_in wd)) refl
 

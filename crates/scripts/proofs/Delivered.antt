@@ -51,8 +51,8 @@ script-follows ns e {s = s} wd h (more {st = st} r k rest) =
 -- ------------------------------------------------------------------------
 -- from an opened stage
 
-module _ (ns : List ℕ) (count : ℕ) (before : PlayerView) (ok : (opened_by ns count).ok ≡ true) (t : Stage) (sts : List Step) (rs : List Reply)
-    (script : Script ns (opened_by ns count).stage sts rs t) where
+module _ (ns : List ℕ) (count : ℕ) (before : PlayerView) (ok : (opened_by ns count).ok ≡ true) (t : Stage) (sts : List Step)
+    (rs : List Reply) (script : Script ns (opened_by ns count).stage sts rs t) where
   abbrev wd₀ : World
   wd₀ = first_world before (entries_of ns) count run_settings
 

@@ -92,7 +92,8 @@ alike_then rule f g wd same =
     (record { reply = refl; world = by (eqb (rule (player_in wd)).answer 0) })
   where
     by : (b : Bool) →
-        forgotten (cond b (f (with_player (rule (player_in wd)).next (forgotten wd))) (with_player (rule (player_in wd)).next (forgotten wd)))
+        forgotten (cond b (f (with_player (rule (player_in wd)).next (forgotten wd)))
+        (with_player (rule (player_in wd)).next (forgotten wd)))
         ≡ forgotten (cond b (g (with_player (rule (player_in wd)).next wd)) (with_player (rule (player_in wd)).next wd))
     by true =
         ap (λ x. forgotten (f x)) (sym (forgotten-player (rule (player_in wd)).next wd)) ∙ same (with_player (rule (player_in wd)).next wd)

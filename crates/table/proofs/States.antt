@@ -28,7 +28,8 @@ module _ {ns : List ℕ} {p : PlayerView} {w n : ℕ} (q : OneMore ns p w n) whe
   one_more-answer = main_rule-can ns p q.shaped (omega (arith, is_for-within (entries_of ns) w _ q.own, entries_of-length ns))
 
   -- where something is queued there is no tick, and the window is as the entry leaves it
-  pub one_more-window : 1 ≤ n → window_at w (main_rule ns (p.current + 1) p).next ≡ read_at (entries_of ns) w (p.current + 1) (window_at w p)
+  pub one_more-window : 1 ≤ n →
+      window_at w (main_rule ns (p.current + 1) p).next ≡ read_at (entries_of ns) w (p.current + 1) (window_at w p)
   one_more-window some =
       let i : ℕ = p.current + 1 in
       let read : WindowView = read_at (entries_of ns) w i (window_at w p) in

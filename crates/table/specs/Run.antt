@@ -45,5 +45,6 @@ RunA before =
 -- by the calls: the stage is opened, and whatever gives what `Stage::step` promises gives this
 pub record StageA : Type 0 where
   pub ok : (opened_by (numbers_of afternoon) 2).ok ≡ true
-  pub prints : (rs : List Reply) (t : Stage) → Script (numbers_of afternoon) (opened_by (numbers_of afternoon) 2).stage afternoon_steps rs t →
+  pub prints : (rs : List Reply) (t : Stage) →
+      Script (numbers_of afternoon) (opened_by (numbers_of afternoon) 2).stage afternoon_steps rs t →
       PrintsA (map reply_of rs) (record_in 0 t) (record_in 1 t)
