@@ -7,7 +7,7 @@ use crate::slot::Slot;
 use script_line::{Step, Verb};
 
 // An answer with which a step ends, or none.
-#[derive(Drop)]
+#[derive(Clone, Copy)]
 pub enum Early {
     Answer(Reply),
     None,

@@ -13,7 +13,7 @@ use player::Player;
 use record::Record;
 
 // The player, and the record and the line of each window. Those from the number of windows up are no part of it.
-#[derive(Drop)]
+#[derive(Clone, Copy)]
 pub struct Stage {
     pub player: Player,
     pub records: [Record; 16],
@@ -21,21 +21,21 @@ pub struct Stage {
 }
 
 // What a step answers: the papers' number, or that a Take or an Ack found its line empty.
-#[derive(Drop)]
+#[derive(Clone, Copy)]
 pub enum Reply {
     Answered(u32),
     Empty,
 }
 
 // A reply beside the stage as it then is.
-#[derive(Drop)]
+#[derive(Clone, Copy)]
 pub struct Stepped {
     pub stage: Stage,
     pub reply: Reply,
 }
 
 // Whether a stage was opened, and the stage.
-#[derive(Drop)]
+#[derive(Clone, Copy)]
 pub struct Opened {
     pub stage: Stage,
     pub ok: bool,

@@ -7,7 +7,7 @@ use journal::Index;
 use rules::Term;
 
 // An entry on its way: its five numbers, the term of its batch, and whether it is the batch's last.
-#[derive(Drop)]
+#[derive(Clone, Copy)]
 pub struct Sent {
     pub numbers: [u32; 5],
     pub term: Term,
@@ -15,28 +15,28 @@ pub struct Sent {
 }
 
 // An ack on its way back: the term of a batch and its last index.
-#[derive(Drop)]
+#[derive(Clone, Copy)]
 pub struct Ack {
     pub term: Term,
     pub index: Index,
 }
 
 // Entries on their way, oldest first: the cells below the length. A run has at most 16 of them, and a step adds at most two.
-#[derive(Drop)]
+#[derive(Clone, Copy)]
 pub struct Entries {
     pub cells: [Sent; 18],
     pub len: usize,
 }
 
 // Acks on their way back, oldest first. A run has at most 8 of them, and a step adds at most one.
-#[derive(Drop)]
+#[derive(Clone, Copy)]
 pub struct Acks {
     pub cells: [Ack; 9],
     pub len: usize,
 }
 
 // Both ways of a line.
-#[derive(Drop)]
+#[derive(Clone, Copy)]
 pub struct Line {
     pub entries: Entries,
     pub acks: Acks,

@@ -12,7 +12,7 @@ use record::{Record, Taken};
 use script_line::{Step, Verb};
 
 // A reply, and the window's record and line as they then are.
-#[derive(Drop)]
+#[derive(Clone, Copy)]
 pub struct Settled {
     pub reply: Reply,
     pub record: Record,

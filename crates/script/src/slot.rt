@@ -11,7 +11,7 @@ use rules::Term;
 use window::{Condition, Window};
 
 // Whether a window is one of the player's, its term and the index due there, its record, its line, and the front ack of the line.
-#[derive(Drop)]
+#[derive(Clone, Copy)]
 pub struct Slot {
     pub there: bool,
     pub term: Term,

@@ -16,8 +16,9 @@ use Rattle.script_line.specs.declared.Step.{Step}
 use Rattle.script.specs.declared.Stage.{Stage}
 use Rattle.script.specs.declared.Reply.{Reply}
 use Rattle.script.specs.Stage.{world_of, forgotten, step_in, steps_in, reply_of}
-use Rattle.script.specs.Opening.{run_settings, opened_by, opened_by-journal, opened_by-done, opened_by-world}
-use Rattle.script.specs.Worlds.{Staged, world_of-side}
+use Rattle.script.specs.Opening.{run_settings, opened_by}
+use Rattle.script.proofs.Opening.{opened_by-journal, opened_by-done, opened_by-world}
+use Rattle.script.proofs.Worlds.{Staged, world_of-side}
 use Rattle.scripts.specs.Room.{Roomy, roomy-step, roomy-opened}
 use Rattle.scripts.specs.Tickless.{Short}
 use Rattle.scripts.proofs.Tickless.{taken_own}

@@ -24,8 +24,8 @@ use Rattle.script.specs.Stage.{world_with, world_of, forget, forgotten, due_in, 
 use Rattle.script.specs.Promise.{Steps, Plays}
 use Rattle.script.specs.declared.line.Line.{Line}
 use Rattle.script.specs.Line.{world_sent, world_ack, sent_in, acks_in, sent_in-length, acks_in-length}
-use Rattle.script.specs.Sides.{forgotten-player, forgotten-side}
-use Rattle.script.specs.Worlds.{world_of-count, Staged, world_of-side}
+use Rattle.script.proofs.Sides.{forgotten-player, forgotten-side}
+use Rattle.script.proofs.Worlds.{world_of-count, Staged, world_of-side}
 use Rattle.scripts.specs.Room.{Roomy, roomy-line}
 
 -- ------------------------------------------------------------------------

@@ -8,10 +8,10 @@ use Rattle.script_line.specs.declared.Step.{Step}
 use Rattle.script.specs.declared.Stage.{Stage}
 use Rattle.script.specs.Stage.{window_of}
 use Rattle.script.specs.Stored.{slot_in}
-use Rattle.script.specs.Worlds.{slot_in-absent, slot_in-of, Staged}
-use Rattle.script.specs.Calls.{playable-facts}
-use Rattle.script.specs.Early.{GoesOn, early-none, early-plays}
-use Rattle.script.specs.Played.{Made, made-main, made_at, unasked, plays-within, plays-refused, plays-done}
+use Rattle.script.proofs.Worlds.{slot_in-absent, slot_in-of, Staged}
+use Rattle.script.proofs.Calls.{playable-facts}
+use Rattle.script.proofs.EarlyLaws.{GoesOn, early-none, early-plays}
+use Rattle.script.proofs.Played.{Made, made-main, made_at, unasked, plays-within, plays-refused, plays-done}
 use Rattle.script.proofs.Sixteen.{windows-length, records-length, lines-length, staged}
 use borrow.Author.Rules.{rules}
 use Rattle.script.proofs.Stage.step.Statement.{statement}
