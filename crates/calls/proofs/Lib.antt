@@ -1,4 +1,4 @@
--- The laws, proved of the definitions of specs/.
+-- The laws of the calls, proved of the definitions of specs/.
 pub mod Shows
 pub mod Sends
 pub mod Steps

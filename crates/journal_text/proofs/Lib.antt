@@ -1,4 +1,5 @@
--- What the proofs share besides the laws of specs/.
+-- What the proofs share besides the laws of specs/, and the laws above the definitions of answers and of the pass: refusals in their
+-- order, the round trips, the pass over a held journal, and old files.
 mod Stepping
 mod Answering
 mod Passing

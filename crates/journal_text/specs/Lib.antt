@@ -1,5 +1,5 @@
--- Journal text: the line of an entry, the text of a list of entries, what reading and writing answer, their refusals in order, the round
--- trips, the pass over a held journal, old files, and bytes put at a place of the output.
+-- Journal text: the line of an entry, the text of a list of entries, what reading and writing answer, the pass over a held journal, and
+-- bytes put at a place of the output.
 pub mod Text
 pub mod Scan
 pub mod LineLaws

@@ -16,7 +16,13 @@ fn answered(rt: &impl Print, played: Played) -> io::Result<Player> {
 }
 
 // Send, lent the first of some numbers.
-fn lend(rt: &impl Print, p: Player, journal: &[u32], n: Line, out: &mut [u32]) -> io::Result<Player> {
+fn lend(
+    rt: &impl Print,
+    p: Player,
+    journal: &[u32],
+    n: Line,
+    out: &mut [u32],
+) -> io::Result<Player> {
     let size = n.c as usize;
     if size <= out.len() {
         let after = answered(rt, operations::send_on(p, journal, n.b, &mut out[0..size]))?;
@@ -33,7 +39,13 @@ fn send(rt: &impl Print, p: Player, journal: &[u32], n: Line) -> io::Result<Play
 }
 
 // Send at window w on its own, lent five nines.
-fn send_alone(rt: &impl Print, window: Window, journal: &[u32], w: u32, limit: u32) -> io::Result<()> {
+fn send_alone(
+    rt: &impl Print,
+    window: Window,
+    journal: &[u32],
+    w: u32,
+    limit: u32,
+) -> io::Result<()> {
     let mut nines = [9; 5];
     let turned = window_send::send_at(window, journal, w, limit, &mut nines);
     let answer = turned.answer;
@@ -42,7 +54,13 @@ fn send_alone(rt: &impl Print, window: Window, journal: &[u32], w: u32, limit: u
 }
 
 // Catch at window w on its own.
-fn catch_alone(rt: &impl Print, window: Window, journal: &[u32], w: u32, n: Line) -> io::Result<Window> {
+fn catch_alone(
+    rt: &impl Print,
+    window: Window,
+    journal: &[u32],
+    w: u32,
+    n: Line,
+) -> io::Result<Window> {
     let turned = window_fill::catch_at(window, journal, w, Term(n.c), Index(n.d));
     let answer = turned.answer;
     show::answer(rt, answer)?;
@@ -50,7 +68,15 @@ fn catch_alone(rt: &impl Print, window: Window, journal: &[u32], w: u32, n: Line
 }
 
 // Start with a first term and the first `len` reports, and the spacing and the set of silent windows before W.
-fn start(rt: &impl Print, p: Player, journal: &[u32], n: Line, first: Term, reports: &[u32], len: usize) -> io::Result<Player> {
+fn start(
+    rt: &impl Print,
+    p: Player,
+    journal: &[u32],
+    n: Line,
+    first: Term,
+    reports: &[u32],
+    len: usize,
+) -> io::Result<Player> {
     if len <= reports.len() {
         let settings = Settings {
             limit: n.d,
@@ -58,19 +84,34 @@ fn start(rt: &impl Print, p: Player, journal: &[u32], n: Line, first: Term, repo
             first,
             silent: n.b,
         };
-        return answered(rt, operations::start_on(p, journal, n.c, settings, &reports[0..len]));
+        return answered(
+            rt,
+            operations::start_on(p, journal, n.c, settings, &reports[0..len]),
+        );
     }
     Ok(p)
 }
 
 // The operations on a player that lend nothing.
-fn operation(rt: &impl Print, p: Player, journal: &[u32], n: Line, letter: u8) -> io::Result<Player> {
+fn operation(
+    rt: &impl Print,
+    p: Player,
+    journal: &[u32],
+    n: Line,
+    letter: u8,
+) -> io::Result<Player> {
     Ok(match letter {
         b'M' => answered(rt, operations::main_on(p, journal, Index(n.d)))?,
-        b'C' => answered(rt, operations::catch_on(p, journal, n.b, Term(n.c), Index(n.d)))?,
+        b'C' => answered(
+            rt,
+            operations::catch_on(p, journal, n.b, Term(n.c), Index(n.d)),
+        )?,
         b'S' => send(rt, p, journal, n)?,
         b'W' => answered(rt, operations::written_on(p, journal, n.c, Term(n.d)))?,
-        b'A' => answered(rt, operations::ack_on(p, journal, n.b, Term(n.c), Index(n.d)))?,
+        b'A' => answered(
+            rt,
+            operations::ack_on(p, journal, n.b, Term(n.c), Index(n.d)),
+        )?,
         b'D' => answered(rt, operations::drop_on(p, journal, n.d))?,
         b'J' => answered(rt, operations::join_on(p, journal, n.c, Index(n.d)))?,
         _ => p,
@@ -97,7 +138,8 @@ fn shape(rt: &impl Print, p: Player, journal: &[u32]) -> io::Result<()> {
     operation(rt, p, journal, numbers(0, 16, 9), b'W')?;
     operation(rt, p, journal, numbers(16, 9, 9), b'A')?;
     operation(rt, p, journal, numbers(0, 0, 16), b'D')?;
-    operation(rt, p, journal, numbers(0, 16, 9), b'J')
+    operation(rt, p, journal, numbers(0, 16, 9), b'J')?;
+    Ok(())
 }
 
 // The same over the first `n` numbers of a journal.
@@ -131,7 +173,14 @@ fn over(rt: &impl Print, s: State, journal: &[u32], n: Line, letter: u8) -> io::
 }
 
 // The same over the first `len` numbers.
-fn over_first(rt: &impl Print, s: State, numbers: &[u32], len: usize, n: Line, letter: u8) -> io::Result<Player> {
+fn over_first(
+    rt: &impl Print,
+    s: State,
+    numbers: &[u32],
+    len: usize,
+    n: Line,
+    letter: u8,
+) -> io::Result<Player> {
     if len <= numbers.len() {
         return Ok(over(rt, s, &numbers[0..len], n, letter)?);
     }
@@ -139,7 +188,13 @@ fn over_first(rt: &impl Print, s: State, numbers: &[u32], len: usize, n: Line, l
 }
 
 // What a letter asks or shows, and the state as it then is.
-pub(crate) fn letter(rt: &impl Print, s: State, zeros: &[u32], n: Line, letter: u8) -> io::Result<State> {
+pub(crate) fn letter(
+    rt: &impl Print,
+    s: State,
+    zeros: &[u32],
+    n: Line,
+    letter: u8,
+) -> io::Result<State> {
     let p = s.player;
     show::letter(rt, p, n.d, letter)?;
     if letter == b'Z' {

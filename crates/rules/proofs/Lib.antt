@@ -1,4 +1,5 @@
--- The laws, proved of the definitions of specs/.
+-- The laws of the rules, proved of the definitions of specs/: the refusals of each operation in order, what it does, and the laws that
+-- the rules offer.
 pub mod Checks
 pub mod Shaped
 pub mod Answer

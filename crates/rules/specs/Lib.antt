@@ -1,5 +1,4 @@
--- The rules of the player: the view that they speak of, the shape, a rule for each operation, its refusals in order, and the laws
--- that the rules offer.
+-- The rules of the player: the view that they speak of, the shape, a rule for each operation, and what the laws of the refusals share.
 pub mod View
 pub mod Shape
 pub mod Window

@@ -1,4 +1,4 @@
-// The rules of the player: definitions and laws in specs/, and no code.
+// The rules of the player: definitions in specs/, their laws in proofs/, and no code.
 #![tactic(auto)]
 
 // Which connection of a window: a count of its connections.

@@ -1,0 +1,33 @@
+-- Each way out has the outcomes of the tests before it; the turn of the window is stored.
+use mathlib.Core.Path.{ap}
+use mathlib.Core.Bool.{not}
+use Rattle.player.specs.Tested.{tested-unfit, tested-fit, tested-out, tested-more, tested-all}
+use Rattle.player.proofs.Sixteen.{windows-length}
+use Rattle.operations.proofs.Operate.{reaches}
+use Rattle.operations.proofs.Sent.{send-shapeless, send-absent, send-meets}
+use Rattle.operations.proofs.send.send_on.Goals as goal
+
+pub returns-then-not-numbers_fit : goal.returns-then-not-numbers_fit
+returns-then-not-numbers_fit c = send-shapeless _ _ _ _ (tested-unfit _ _ c.numbers_fit.ensures (ap not c.if-not-numbers_fit.true))
+
+pub loop-next-init : goal.loop-next-init
+loop-next-init c =
+    tested-fit _ _ c.numbers_fit.ensures (windows-length c.args.player _ c.well_formed.0) (ap not c.if-not-numbers_fit.false)
+
+pub returns-then-not-in_shape : goal.returns-then-not-in_shape
+returns-then-not-in_shape c =
+    send-shapeless _ _ _ _
+    (tested-out c.loop-next.invariant c.loop-next-test.true c.entries-l.ensures _ c.in_shape.ensures
+    (ap not c.if-not-in_shape.true))
+
+pub loop-next-preserved : goal.loop-next-preserved
+loop-next-preserved c =
+    tested-more c.loop-next.invariant c.loop-next-test.true c.entries-l.ensures _ c.in_shape.ensures
+    (ap not c.if-not-in_shape.false)
+
+pub returns-then-count-w : goal.returns-then-count-w
+returns-then-count-w c = send-absent _ _ _ _ (tested-all c.loop-next.invariant c.loop-next-test.false) c.if-count-w.true
+
+pub returns : goal.returns
+returns c =
+    send-meets (reaches c.loop-next.invariant c.loop-next-test.false c.if-count-w.false) _ _ _ c.send_at-sent.ensures
