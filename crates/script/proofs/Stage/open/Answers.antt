@@ -1,7 +1,6 @@
 -- Above 16 windows Start is refused; else it gets as many reports of 0 as there are windows.
 use mathlib.Core.Path.{refl}
 use Rattle.script.proofs.Opening.{reports-count, opened_by-over, opened_by-start}
-use borrow.Author.Rules.{rules}
 use Rattle.script.proofs.Stage.open.Goals as goal
 
 pub returns-then-count-gt16 : goal.returns-then-count-gt16

@@ -44,9 +44,9 @@ slot-answered c few =
     let is = c.well_formed.0 in
     rw (sym c.window_of-at.ensures)
     (elim c.if-at-lt16.branch [
-      then-at-lt16 w ↦
-        w.slot-is ∙ w.of-slot.ensures
-        ∙ slot_in-of c.args.self (staged c.args.self _ is few) (windows-length c.args.self _ is) _ _ _ _
+      | then-at-lt16 w ↦
+          w.slot-is ∙ w.of-slot.ensures
+          ∙ slot_in-of c.args.self (staged c.args.self _ is few) (windows-length c.args.self _ is) _ _ _ _
       | else-at-lt16 w ↦ w.slot-is ∙ c.none-slot.ensures ∙ slot_in-absent c.args.self _ (omega (arith, w.if-at-lt16.false))
     ])
 
@@ -64,9 +64,9 @@ slot-refused c few =
     let is = c.well_formed.0 in
     rw (sym c.window_of-at.ensures)
     (elim c.if-at-lt16.branch [
-      then-at-lt16 w ↦
-        w.slot-is ∙ w.of-slot.ensures
-        ∙ slot_in-of c.args.self (staged c.args.self _ is few) (windows-length c.args.self _ is) _ _ _ _
+      | then-at-lt16 w ↦
+          w.slot-is ∙ w.of-slot.ensures
+          ∙ slot_in-of c.args.self (staged c.args.self _ is few) (windows-length c.args.self _ is) _ _ _ _
       | else-at-lt16 w ↦ w.slot-is ∙ c.none-slot.ensures ∙ slot_in-absent c.args.self _ (omega (arith, w.if-at-lt16.false))
     ])
 
@@ -82,10 +82,10 @@ made-refused c =
     let p = c.args.self.player in
     let x = c.if-at-lt16.slot in
     elim c.match-step.branch [
-      in-Main w ↦ made-main ns p x w.in-Main.is w.step-is w.played-is w.out-is (rw w.after.ensures at w.main_on-played.ensures)
+      | in-Main w ↦ made-main ns p x w.in-Main.is w.step-is w.played-is w.out-is (rw w.after.ensures at w.main_on-played.ensures)
       | in-At+in-Catch w ↦ made_at ns p x w.in-At.is w.in-Catch.is w.step-is w.played-is w.out-is w.catch_on.ensures refl
       | in-At+in-Send w ↦
-        made_at ns p x w.in-At.is w.in-Send.is w.step-is w.played-is w.out-is w.send_on.ensures.0 w.send_on.ensures.1
+          made_at ns p x w.in-At.is w.in-Send.is w.step-is w.played-is w.out-is w.send_on.ensures.0 w.send_on.ensures.1
       | in-At+in-Written w ↦ made_at ns p x w.in-At.is w.in-Written.is w.step-is w.played-is w.out-is w.written_on.ensures refl
       | in-At+in-Ack w ↦ made_at ns p x w.in-At.is w.in-Ack.is w.step-is w.played-is w.out-is w.ack_on.ensures refl
       | in-At+in-Drop w ↦ made_at ns p x w.in-At.is w.in-Drop.is w.step-is w.played-is w.out-is w.drop_on.ensures refl
@@ -108,9 +108,9 @@ slot-done c few =
     let is = c.well_formed.0 in
     rw (sym c.window_of-at.ensures)
     (elim c.if-at-lt16.branch [
-      then-at-lt16 w ↦
-        w.slot-is ∙ w.of-slot.ensures
-        ∙ slot_in-of c.args.self (staged c.args.self _ is few) (windows-length c.args.self _ is) _ _ _ _
+      | then-at-lt16 w ↦
+          w.slot-is ∙ w.of-slot.ensures
+          ∙ slot_in-of c.args.self (staged c.args.self _ is few) (windows-length c.args.self _ is) _ _ _ _
       | else-at-lt16 w ↦ w.slot-is ∙ c.none-slot.ensures ∙ slot_in-absent c.args.self _ (omega (arith, w.if-at-lt16.false))
     ])
 
@@ -130,9 +130,9 @@ slot-stored c few =
     let is = c.well_formed.0 in
     rw (sym c.window_of-at.ensures)
     (elim c.if-at-lt16.branch [
-      then-at-lt16 w ↦
-        w.slot-is ∙ w.of-slot.ensures
-        ∙ slot_in-of c.args.self (staged c.args.self _ is few) (windows-length c.args.self _ is) _ _ _ _
+      | then-at-lt16 w ↦
+          w.slot-is ∙ w.of-slot.ensures
+          ∙ slot_in-of c.args.self (staged c.args.self _ is few) (windows-length c.args.self _ is) _ _ _ _
       | else-at-lt16 w ↦ w.slot-is ∙ c.none-slot.ensures ∙ slot_in-absent c.args.self _ (omega (arith, w.if-at-lt16.false))
     ])
 
@@ -148,10 +148,10 @@ made-stored c =
     let p = c.args.self.player in
     let x = c.if-at-lt16.slot in
     elim c.match-step.branch [
-      in-Main w ↦ made-main ns p x w.in-Main.is w.step-is w.played-is w.out-is (rw w.after.ensures at w.main_on-played.ensures)
+      | in-Main w ↦ made-main ns p x w.in-Main.is w.step-is w.played-is w.out-is (rw w.after.ensures at w.main_on-played.ensures)
       | in-At+in-Catch w ↦ made_at ns p x w.in-At.is w.in-Catch.is w.step-is w.played-is w.out-is w.catch_on.ensures refl
       | in-At+in-Send w ↦
-        made_at ns p x w.in-At.is w.in-Send.is w.step-is w.played-is w.out-is w.send_on.ensures.0 w.send_on.ensures.1
+          made_at ns p x w.in-At.is w.in-Send.is w.step-is w.played-is w.out-is w.send_on.ensures.0 w.send_on.ensures.1
       | in-At+in-Written w ↦ made_at ns p x w.in-At.is w.in-Written.is w.step-is w.played-is w.out-is w.written_on.ensures refl
       | in-At+in-Ack w ↦ made_at ns p x w.in-At.is w.in-Ack.is w.step-is w.played-is w.out-is w.ack_on.ensures refl
       | in-At+in-Drop w ↦ made_at ns p x w.in-At.is w.in-Drop.is w.step-is w.played-is w.out-is w.drop_on.ensures refl
