@@ -209,8 +209,8 @@ impl Line {
 
     // The line once its front entry is taken: the entry is off it, and where it was the last of its batch an ack is on the way back.
     pub(crate) fn taken(self, sent: Sent) -> Line
-        requires len_bound { self.entries.len ≤ 18 }
-        requires len_bound_2 { self.acks.len < 9 }
+        requires entries_fit { self.entries.len ≤ 18 }
+        requires acks_fit { self.acks.len < 9 }
         ensures { TakenOff self sent result }
     {
         let entries = self.entries;

@@ -7,7 +7,7 @@ use Rattle.script.proofs.slot.Slot.taken.Goals as goal
 pub taken-requires : goal.taken-requires
 taken-requires c =
     let room = c.requires in
-    record { len_bound = omega (arith, room.0); len_bound_2 = omega (arith, room.1) }
+    record { entries_fit = omega (arith, room.0); acks_fit = omega (arith, room.1) }
 
 pub returns : goal.returns
 returns c =
