@@ -177,8 +177,8 @@ ack-in-batch = record { answers = refl; early = refl; out = refl; resumed = refl
 
 -- Window 1 is silent at the first Start, and nothing is sent to it. Window 0 takes all of its own entries; then window 1 joins, fetches the
 -- journal from its beginning, and takes all of its own.
-abbrev pub window1Silent : World
-window1Silent = opened_without 2 afternoon 2
+abbrev pub window1_silent : World
+window1_silent = opened_without 2 afternoon 2
 
 abbrev pub steps_before : List Step
 steps_before = main 1 ∷ main 2 ∷ main 3 ∷ send 1 room ∷ take 1 false ∷ send 0 room ∷ take 0 false ∷ take 0 false ∷ ack 0 ∷ []
@@ -188,14 +188,14 @@ late_steps =
     join 1 ∷ catch 1 (term 2) 1 ∷ catch 1 (term 2) 2 ∷ catch 1 (term 2) 3 ∷ send 1 room ∷ take 1 false ∷ take 1 false ∷ ack 1 ∷ []
 
 pub record SilentAtStart : Type 0 where
-  pub held : (side_at 1 window1Silent).view ≡ started_silent (term 1) 3
-  pub read : window1Silent.current ≡ 0
-  pub answers : replies window1Silent steps_before ≡ done ∷ done ∷ done ∷ answered 3 ∷ empty ∷ done ∷ done ∷ done ∷ done ∷ []
-  pub others : (side_at 0 (run window1Silent steps_before)).taken ≡ own afternoon 0
-  pub apart : joined_after 1 (speaks 2 1) window1Silent steps_before ≡ false
-  pub late : replies (run window1Silent steps_before) late_steps ≡ done ∷ done ∷ done ∷ done ∷ done ∷ done ∷ done ∷ done ∷ []
-  pub joins : joined_after 1 false (run window1Silent steps_before) late_steps ≡ true
-  pub window1 : (side_at 1 (run (run window1Silent steps_before) late_steps)).taken ≡ own afternoon 1
+  pub held : (side_at 1 window1_silent).view ≡ started_silent (term 1) 3
+  pub read : window1_silent.current ≡ 0
+  pub answers : replies window1_silent steps_before ≡ done ∷ done ∷ done ∷ answered 3 ∷ empty ∷ done ∷ done ∷ done ∷ done ∷ []
+  pub others : (side_at 0 (run window1_silent steps_before)).taken ≡ own afternoon 0
+  pub apart : joined_after 1 (speaks 2 1) window1_silent steps_before ≡ false
+  pub late : replies (run window1_silent steps_before) late_steps ≡ done ∷ done ∷ done ∷ done ∷ done ∷ done ∷ done ∷ done ∷ []
+  pub joins : joined_after 1 false (run window1_silent steps_before) late_steps ≡ true
+  pub window1 : (side_at 1 (run (run window1_silent steps_before) late_steps)).taken ≡ own afternoon 1
 
 pub silent-at-start : SilentAtStart
 unfolding computed counted
