@@ -25,11 +25,18 @@ use std::io;
 use std::io::Read;
 use std::rt::Files;
 
+// So many zeros.
+fn zeros<const N: usize>() -> [u8; N]
+    ensures { N ≡ length result }
+{
+    [0; N]
+}
+
 // Room for a text of 65,536 lines.
 fn text_room() -> [u8; 1200000]
     ensures { 1200000 ≡ length result }
 {
-    [0; 1200000]
+    zeros()
 }
 
 // Room for 65,536 entries.
