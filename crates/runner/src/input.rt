@@ -1,5 +1,5 @@
 // Lines from an input, by way of a buffer of fixed size.
-ghost use Rattle.std.specs.Prelude.{◌+◌, ◌≤◌, ◌≡◌, length, IfOk};
+ghost use Rattle.std.specs.Prelude.{◌+◌, ◌≤◌, ◌≡◌, length, IfOk, OnErr};
 ghost use Rattle.runner.specs.Places.{Places};
 
 use std::io;
@@ -59,14 +59,16 @@ fn step_end(buf: &[u8], from: usize, to: usize) -> usize
 // Reads once, to the place `end`, and answers how many bytes came: 0 at the end of the input.
 fn read_at(input: &mut impl Read, buf: &mut [u8], end: usize) -> io::Result<usize>
     requires { end ≤ length buf.old }
-    ensures { IfOk result (λ n. end + n ≤ length buf.old) }
+    ensures ok { IfOk result (λ n. end + n ≤ length buf.old) }
+    ensures err { OnErr result (length buf.new ≡ length buf.old) }
 {
     input.read(&mut buf[end..])
 }
 
 // Reads until a line is `run`, the buffer is full or the input ends.
 pub(crate) fn find_run(input: &mut impl Read, buf: &mut [u8]) -> io::Result<Run>
-    ensures { IfOk result (λ run. Places run.at run.next run.end buf.old) }
+    ensures ok { IfOk result (λ run. Places run.at run.next run.end buf.old) }
+    ensures err { OnErr result (length buf.new ≡ length buf.old) }
 {
     let mut at = 0;
     let mut end = 0;
@@ -107,7 +109,8 @@ fn move_front(buf: &mut [u8], at: usize, end: usize) -> usize
 // Reads on from a line that has no LF yet, until it has one, it is too long or the input ends. Nothing of the output waits.
 fn read_line(input: &mut impl Read, buf: &mut [u8], at: usize, end: usize) -> io::Result<Line>
     requires { (at ≤ end) × (end ≤ length buf.old) }
-    ensures { IfOk result (λ line. Places line.at line.lf line.end buf.old × (line.used ≡ 0)) }
+    ensures ok { IfOk result (λ line. Places line.at line.lf line.end buf.old × (line.used ≡ 0)) }
+    ensures err { OnErr result (length buf.new ≡ length buf.old) }
 {
     let mut n = move_front(buf, at, end);
     while n < LONGEST {
@@ -146,7 +149,8 @@ pub(crate) fn next_line(
 ) -> io::Result<Line>
     requires at_le_end { (at ≤ end) × (end ≤ length buf.old) }
     requires used_in_bounds { used ≤ length out.now }
-    ensures { IfOk result (λ line. Places line.at line.lf line.end buf.old × (line.used ≤ used)) }
+    ensures ok { IfOk result (λ line. Places line.at line.lf line.end buf.old × (line.used ≤ used)) }
+    ensures err { OnErr result (length buf.new ≡ length buf.old) }
 {
     let lf = step_end(buf, at, end);
     if lf < end {

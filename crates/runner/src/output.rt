@@ -1,5 +1,5 @@
 // Answers, collected in a buffer and written to standard output when it is full.
-ghost use Rattle.std.specs.Prelude.{◌≤◌, length, IfOk};
+ghost use Rattle.std.specs.Prelude.{◌≡◌, ◌≤◌, length, IfOk, OnErr};
 ghost use Rattle.runner.specs.Places.{Waiting};
 
 use itoa::Buffer;
@@ -9,7 +9,8 @@ use std::io;
 // Puts a byte after the `used` first ones of the buffer, once these are written where the buffer is full, and answers how many there are.
 fn put(rt: &impl Print, out: &mut [u8], used: usize, byte: u8) -> io::Result<usize>
     requires { Waiting used out.old }
-    ensures { IfOk result (λ n. n ≤ length out.old) }
+    ensures ok { IfOk result (λ n. n ≤ length out.old) }
+    ensures err { OnErr result (length out.new ≡ length out.old) }
 {
     if used < out.len() {
         out[used] = byte;
@@ -22,7 +23,8 @@ fn put(rt: &impl Print, out: &mut [u8], used: usize, byte: u8) -> io::Result<usi
 
 fn put_text(rt: &impl Print, out: &mut [u8], used: usize, text: &[u8]) -> io::Result<usize>
     requires { Waiting used out.old }
-    ensures { IfOk result (λ n. n ≤ length out.old) }
+    ensures ok { IfOk result (λ n. n ≤ length out.old) }
+    ensures err { OnErr result (length out.new ≡ length out.old) }
 {
     let mut now = used;
     let mut i = 0;
@@ -35,7 +37,8 @@ fn put_text(rt: &impl Print, out: &mut [u8], used: usize, text: &[u8]) -> io::Re
 
 fn put_number(rt: &impl Print, out: &mut [u8], used: usize, n: u64) -> io::Result<usize>
     requires { Waiting used out.old }
-    ensures { IfOk result (λ n. n ≤ length out.old) }
+    ensures ok { IfOk result (λ n. n ≤ length out.old) }
+    ensures err { OnErr result (length out.new ≡ length out.old) }
 {
     let mut digits = Buffer::new();
     put_text(rt, out, used, digits.format(n).as_bytes())
@@ -43,7 +46,8 @@ fn put_number(rt: &impl Print, out: &mut [u8], used: usize, n: u64) -> io::Resul
 
 fn put_reply(rt: &impl Print, out: &mut [u8], used: usize, reply: Reply) -> io::Result<usize>
     requires { Waiting used out.old }
-    ensures { IfOk result (λ n. n ≤ length out.old) }
+    ensures ok { IfOk result (λ n. n ≤ length out.old) }
+    ensures err { OnErr result (length out.new ≡ length out.old) }
 {
     match reply {
         Reply::Answered(number) => put_number(rt, out, used, number as u64),
@@ -60,7 +64,8 @@ pub(crate) fn put_answer(
     reply: Reply,
 ) -> io::Result<usize>
     requires { Waiting used out.old }
-    ensures { IfOk result (λ n. n ≤ length out.old) }
+    ensures ok { IfOk result (λ n. n ≤ length out.old) }
+    ensures err { OnErr result (length out.new ≡ length out.old) }
 {
     let after_number = put_number(rt, out, used, number)?;
     let after_blank = put(rt, out, after_number, b' ')?;
@@ -78,7 +83,8 @@ fn put_window(
     count: u32,
 ) -> io::Result<usize>
     requires { Waiting used out.old }
-    ensures { IfOk result (λ n. n ≤ length out.old) }
+    ensures ok { IfOk result (λ n. n ≤ length out.old) }
+    ensures err { OnErr result (length out.new ≡ length out.old) }
 {
     let after_word = put_text(rt, out, used, b"window ")?;
     let after_number = put_number(rt, out, after_word, w as u64)?;
