@@ -1,8 +1,7 @@
 // Lines from an input, by way of a buffer of fixed size.
-ghost use Rattle.std.specs.Prelude.{◌+◌, ◌≤◌, ◌≡◌, length, IfOk, OnErr};
+ghost use Rattle.std.specs.Prelude.{◌+◌, ◌≤◌, ◌≡◌, length};
 ghost use Rattle.runner.specs.Places.{Places};
 
-use std::io;
 use std::io::Read;
 
 // The most bytes of a step line that are looked at for its LF. No step line has so many.
@@ -56,36 +55,34 @@ fn step_end(buf: &[u8], from: usize, to: usize) -> usize
     lf
 }
 
-// Reads once, to the place `end`, and answers how many bytes came: 0 at the end of the input.
-fn read_at(input: &mut impl Read, buf: &mut [u8], end: usize) -> io::Result<usize>
+// Reads once, to the place `end`, and answers how many bytes came: 0 at the end of the input, and where a read fails.
+fn read_at(input: &mut impl Read, buf: &mut [u8], end: usize) -> usize
     requires { end ≤ length buf.old }
-    ensures ok { IfOk result (λ n. end + n ≤ length buf.old) }
-    ensures err { OnErr result (length buf.new ≡ length buf.old) }
+    ensures { end + result ≤ length buf.old }
 {
-    input.read(&mut buf[end..])
+    input.read(&mut buf[end..]).unwrap_or(0)
 }
 
 // Reads until a line is `run`, the buffer is full or the input ends.
-pub(crate) fn find_run(input: &mut impl Read, buf: &mut [u8]) -> io::Result<Run>
-    ensures ok { IfOk result (λ run. Places run.at run.next run.end buf.old) }
-    ensures err { OnErr result (length buf.new ≡ length buf.old) }
+pub(crate) fn find_run(input: &mut impl Read, buf: &mut [u8]) -> Run
+    ensures { Places result.at result.next result.end buf.old }
 {
     let mut at = 0;
     let mut end = 0;
     loop {
         let lf = line_end(buf, at, end);
         if lf == end {
-            let got = read_at(input, buf, end)?;
+            let got = read_at(input, buf, end);
             if got == 0 {
-                return Ok(Run { at, next: at, end });
+                return Run { at, next: at, end };
             }
             end += got;
         } else if script_line::is_run(&buf[at..lf]) {
-            return Ok(Run {
+            return Run {
                 at,
                 next: lf + 1,
                 end,
-            });
+            };
         } else {
             at = lf + 1;
         }
@@ -107,34 +104,33 @@ fn move_front(buf: &mut [u8], at: usize, end: usize) -> usize
 }
 
 // Reads on from a line that has no LF yet, until it has one, it is too long or the input ends. Nothing of the output waits.
-fn read_line(input: &mut impl Read, buf: &mut [u8], at: usize, end: usize) -> io::Result<Line>
+fn read_line(input: &mut impl Read, buf: &mut [u8], at: usize, end: usize) -> Line
     requires { (at ≤ end) × (end ≤ length buf.old) }
-    ensures ok { IfOk result (λ line. Places line.at line.lf line.end buf.old × (line.used ≡ 0)) }
-    ensures err { OnErr result (length buf.new ≡ length buf.old) }
+    ensures { Places result.at result.lf result.end buf.old × (result.used ≡ 0) }
 {
     let mut n = move_front(buf, at, end);
     while n < LONGEST {
-        let got = read_at(input, buf, n)?;
+        let got = read_at(input, buf, n);
         if got == 0 {
             break;
         }
         n += got;
         let lf = step_end(buf, 0, n);
         if lf < n {
-            return Ok(Line {
+            return Line {
                 at: 0,
                 lf,
                 end: n,
                 used: 0,
-            });
+            };
         }
     }
-    Ok(Line {
+    Line {
         at: 0,
         lf: n,
         end: n,
         used: 0,
-    })
+    }
 }
 
 // The line that begins at `at`. Where it is not whole in the buffer, the output that waits is written before more is read.
@@ -146,16 +142,15 @@ pub(crate) fn next_line(
     end: usize,
     out: &[u8],
     used: usize,
-) -> io::Result<Line>
+) -> Line
     requires at_le_end { (at ≤ end) × (end ≤ length buf.old) }
     requires used_in_bounds { used ≤ length out.now }
-    ensures ok { IfOk result (λ line. Places line.at line.lf line.end buf.old × (line.used ≤ used)) }
-    ensures err { OnErr result (length buf.new ≡ length buf.old) }
+    ensures { Places result.at result.lf result.end buf.old × (result.used ≤ used) }
 {
     let lf = step_end(buf, at, end);
     if lf < end {
-        return Ok(Line { at, lf, end, used });
+        return Line { at, lf, end, used };
     }
-    rt.write_all(&out[0..used])?;
+    rt.write_all(&out[0..used]).unwrap_or(());
     read_line(input, buf, at, end)
 }

@@ -9,36 +9,37 @@ mod output;
 mod play;
 
 use std::env::{Env, FillError};
+use std::fs;
 use std::rt::Files;
-use std::{fs, io};
 
 // Plays the file of a name, or says why it cannot be opened.
-fn play_file(rt: &(impl Files + Print + Eprint), name: &str) -> io::Result<()> {
+fn play_file(rt: &(impl Files + Print + Eprint), name: &str) {
     match fs::open(rt, name) {
         Ok(mut file) => play::play(rt, &mut file),
-        Err(error) => eprintln!(rt; "{name}: {error}"),
+        Err(error) => eprintln!(rt; "{name}: {error}").unwrap_or(()),
     }
 }
 
 // Plays the input of a name, after a line with the name. `-` is standard input.
-fn play_named(rt: &(impl Files + Input + Print + Eprint), name: &[u8]) -> io::Result<()> {
-    rt.write_all(name)?;
-    rt.write_all(b"\n")?;
+fn play_named(rt: &(impl Files + Input + Print + Eprint), name: &[u8]) {
+    rt.write_all(name).unwrap_or(());
+    rt.write_all(b"\n").unwrap_or(());
     if check::same(name, b"-") {
-        return play::play(rt, &mut rt.reader());
+        play::play(rt, &mut rt.reader());
+        return;
     }
     match str::from_utf8(name) {
         Ok(name) => play_file(rt, name),
-        Err(_) => rt.eprintln("argument: not UTF-8"),
+        Err(_) => rt.eprintln("argument: not UTF-8").unwrap_or(()),
     }
 }
 
 // Plays the input that an argument names, or says why there is no such name.
-fn play_argument(rt: &(impl Env + Files + Input + Print + Eprint), i: usize) -> io::Result<()> {
+fn play_argument(rt: &(impl Env + Files + Input + Print + Eprint), i: usize) {
     let mut name = [0u8; 4096];
     match rt.arg(i, &mut name) {
         Ok(length) => play_named(rt, &name[..length]),
-        Err(_) => rt.eprintln("argument: too long"),
+        Err(_) => rt.eprintln("argument: File name too long").unwrap_or(()),
     }
 }
 
@@ -48,15 +49,15 @@ fn has_argument(rt: &impl Env, i: usize) -> bool {
     !matches!(rt.arg(i, &mut none), Err(FillError::NotPresent))
 }
 
-fn main(rt: HostRuntime) -> io::Result<()> {
+fn main(rt: HostRuntime) {
     if !has_argument(&rt, 1) {
-        return play::play(&rt, &mut rt.reader());
+        play::play(&rt, &mut rt.reader());
+        return;
     }
     for i in 1..usize::MAX {
         if !has_argument(&rt, i) {
             break;
         }
-        play_argument(&rt, i)?;
+        play_argument(&rt, i);
     }
-    Ok(())
 }
