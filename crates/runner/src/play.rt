@@ -102,9 +102,9 @@ fn play_steps(
         if lf == end {
             if start == end {
                 put_windows(rt, out, used, stage, count);
-                return;
+            } else {
+                refuse(rt, out, used);
             }
-            refuse(rt, out, used);
             return;
         }
         at = lf + 1;
