@@ -12,16 +12,10 @@ use Rattle.delivery.specs.World.{World, run}
 use Rattle.delivery.proofs.Offers.{Reached, opened-reached}
 use Rattle.calls.specs.Host.{Host, Call, call_step, MadeAll, host_after, opened}
 use Rattle.calls.specs.Statement.{FirstStart}
+use Rattle.calls.specs.SameHeld.{SameHeld}
 use Rattle.calls.proofs.Shows.{Shows}
 use Rattle.calls.proofs.Runs.{host_after-shows}
 use Rattle.calls.proofs.Demand3Calls.{opened-shows, first_done}
-
--- two hosts that hold the same but for cells of the player that no view has
-pub record SameHeld (h h' : Host) : Type 0 where
-  pub player : player_of h.player ≡ player_of h'.player
-  pub journal : h.journal ≡ h'.journal
-  pub windows : h.windows ≡ h'.windows
-  pub greatest : h.greatest ≡ h'.greatest
 
 -- two hosts that show one world
 shown-alike : {h h' : Host} {wd : World} → Shows h wd → Shows h' wd → SameHeld h h'
