@@ -10,3 +10,4 @@ pub mod NoneCan
 pub mod Demand3Calls
 pub mod ExactCountsCalls
 pub mod OldTermsCalls
+pub mod SameRuns

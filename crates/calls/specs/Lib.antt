@@ -5,3 +5,5 @@ pub mod Counts
 pub mod Stragglers
 pub mod Answers
 pub mod Held
+pub mod Tests
+pub mod SameHeld

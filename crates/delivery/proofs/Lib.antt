@@ -27,3 +27,7 @@ pub mod Ticks
 pub mod ExactCounts
 pub mod CountExamples
 pub mod Offers
+pub mod SortLaws
+pub mod TestExamples
+pub mod Duds
+pub mod ConstantBatch

@@ -6,3 +6,5 @@ pub mod Sorts
 pub mod Statement
 pub mod Counts
 pub mod Stragglers
+pub mod Tests
+pub mod Duds

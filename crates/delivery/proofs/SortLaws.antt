@@ -1,19 +1,9 @@
 -- What is work, kind by kind.
-use Rattle.std.specs.Prelude.{ℕ, ◌≡◌, refl, List, Bool, true, false}
+use Rattle.std.specs.Prelude.{ℕ, ◌≡◌, List, Bool, true}
 use Rattle.std.proofs.lemmas.Bool.{false≢true}
 use Rattle.rules.specs.declared.Term.{Term}
 use Rattle.delivery.specs.World.{Step, main, catch, written, send, take, ack, late-ack, drop, join, start, append}
-use Rattle.delivery.specs.Sorts.{Sort, mains, takes, other_work, drops, joins, starts, appends, sort_of, begins, is_work}
-
--- work begins no count anew
-pub begins-work : (k : Sort) (done : Bool) → is_work k ≡ true → begins k done ≡ false
-begins-work mains done e = refl
-begins-work (takes w) done e = refl
-begins-work other_work done e = refl
-begins-work (drops w) done e = absurd (false≢true e)
-begins-work (joins w) done e = absurd (false≢true e)
-begins-work (starts silent) done e = absurd (false≢true e)
-begins-work appends done e = absurd (false≢true e)
+use Rattle.delivery.specs.Sorts.{sort_of, is_work}
 
 -- what holds of each kind of work
 pub record OfWork (P : Step → Type 0) : Type 0 where

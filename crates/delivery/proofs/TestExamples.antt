@@ -2,10 +2,18 @@
 -- where some can, each by another kind of step alone.
 use Rattle.std.specs.Prelude.{ℕ, ◌≡◌, refl, [], ◌∷◌, false, length}
 use Rattle.std.proofs.Math.ListN as ListN
+use Rattle.lists.specs.Same.{same_list}
+use Rattle.record.specs.Same.{same_race, same_record}
 use Rattle.delivery.specs.World.{World, main, send, written, take, ack, answered, empty, run, replies}
-use Rattle.delivery.specs.Statement.{changes}
+use Rattle.delivery.specs.Same.{same_window, same_entry, same_sent, same_ack, same_side, same_world}
+use Rattle.delivery.specs.Statement.{changes, changes_by}
 use Rattle.delivery.specs.Tests.{tests_from, tests, none_done}
-use Rattle.delivery.proofs.Examples.{computed, counted, term, room, one_entry, five_moves}
+use Rattle.delivery.proofs.Examples.{computed, term, room, one_entry, five_moves}
+
+-- to unfold this is to unfold the definitions that the tests that change something are counted with
+counted : Unit {0}
+unfolding changes_by same_world same_side same_window same_record same_race same_sent same_entry same_ack same_list
+counted = tt
 
 -- the world after the first k of the steps of `five_moves`
 abbrev pub moved_by : ℕ → World

@@ -10,20 +10,15 @@ use Rattle.rules.specs.Shape.{is_empty, shape}
 use Rattle.rules.specs.Window.{batch_of}
 use Rattle.rules.specs.Rules.{Outcome, window_at, speaks, main_rule, ack_rule}
 use Rattle.rules.proofs.Offers.{main_rule-refuses, catch_rule-lawful, send_rule-lawful, written_rule-lawful, ack_rule-lawful}
-use Rattle.delivery.specs.World.{World, side_at, numbers_in, player_in, with_lines, with_side, Step, main, catch, written, send, take, ack, late-ack, answered, empty, Stepped, stays, called, called_then, is_late, launch_by, step_by}
+use Rattle.delivery.specs.World.{World, side_at, numbers_in, player_in, with_lines, with_side, main, catch, written, send, take, ack, late-ack, answered, empty, Stepped, stays, called, called_then, is_late, launch_by, step_by}
 use Rattle.delivery.specs.Same.{same_world}
 use Rattle.delivery.specs.Statement.{joined_after_by, NoneCanBy, Demand3By}
-use Rattle.delivery.proofs.Examples.{term, room}
-use Rattle.delivery.specs.SortLaws.{of-work}
+use Rattle.delivery.proofs.SortLaws.{of-work}
 use Rattle.delivery.proofs.Worlds.{with_player-same}
 use Rattle.delivery.proofs.SameLaws.{same_world-itself}
 use Rattle.delivery.proofs.Stepped.{called_then-refused, late_turned}
-use Rattle.delivery.specs.Duds.{first, opened_by, after_by, Played, Unfinished, dud, constant_batch, stays-world, only-window, unfinished-shut-out}
-
--- both entries are read, and what is sent is written and taken
-abbrev pub both_read : List Step
-both_read =
-    main 1 ∷ send 0 room ∷ written 0 (term 1) ∷ take 0 false ∷ ack 0 ∷ main 2 ∷ send 0 room ∷ written 0 (term 1) ∷ take 0 false ∷ []
+use Rattle.delivery.specs.Duds.{first, term, opened_by, after_by, Played, Unfinished, constant_batch, both_read}
+use Rattle.delivery.proofs.Duds.{dud, stays-world, only-window, unfinished-shut-out}
 
 abbrev at_end : World
 at_end = after_by constant_batch both_read
