@@ -14,7 +14,6 @@ use borrow.Author.Tests.{le-leb, lt-leb, eq-eqb, ne_eqb}
 use Rattle.decimal.specs.Numeral.{is_digit, lead_digits, value_from, canonical, read_at}
 use Rattle.decimal.specs.Digit.{DigitAt}
 use Rattle.decimal.specs.Value.{lead_digits-digit, lead_digits-other}
-use Rattle.decimal.specs.declared.Numeral.TheVariants.{Number, Nothing}
 
 -- DigitAt
 
@@ -96,16 +95,16 @@ canonical-more (b ∷ c ∷ s) h = refl
 -- read_at
 
 module _ (bound : ℕ) (text : List ℕ) (at : ℕ) where
-  read_above : bound < value_from 0 (lead_digits (drop at text)) → read_at bound text at ≡ Nothing
+  read_above : bound < value_from 0 (lead_digits (drop at text)) → read_at bound text at ≡ None
   unfolding read_at
   read_above h = simp (lt-leb (value_from 0 (lead_digits (drop at text))) bound h, and-false)
 
-  read-other : canonical (lead_digits (drop at text)) ≡ false → read_at bound text at ≡ Nothing
+  read-other : canonical (lead_digits (drop at text)) ≡ false → read_at bound text at ≡ None
   unfolding read_at
   read-other h = simp h
 
   read_number : (v next : ℕ) → canonical (lead_digits (drop at text)) ≡ true → value_from 0 (lead_digits (drop at text)) ≡ v → v ≤ bound
-      → at + length (lead_digits (drop at text)) ≡ next → read_at bound text at ≡ Number v next
+      → at + length (lead_digits (drop at text)) ≡ next → read_at bound text at ≡ Some (v, next)
   unfolding read_at
   read_number v next c e h l = simp (c, e, l, le-leb v bound h)
 
@@ -139,7 +138,7 @@ module _ {text : List ℕ} {at v i d : ℕ} (p : Passed text at v i d) where
 
 -- What `read` answers after the digits that it passed.
 module _ (bound : ℕ) {text : List ℕ} {at v i d : ℕ} (p : Passed text at v i d) where
-  pub answer-above : d < 10 → bound < v * 10 + d → Nothing ≡ read_at bound text at
+  pub answer-above : d < 10 → bound < v * 10 + d → None ≡ read_at bound text at
   answer-above h q =
       sym (read_above bound text at
       (omega (arith, passed-digit p h, value_from-le (v * 10 + d) (lead_digits (drop (i + 1) text)))))
@@ -152,10 +151,10 @@ module _ (bound : ℕ) {text : List ℕ} {at v i d : ℕ} (p : Passed text at v 
     all-count : at + length (lead_digits (drop at text)) ≡ i
     all-count = omega (arith, p.count, ap length (p.here.none end))
 
-    pub answer-none : i - at ≡ 0 → Nothing ≡ read_at bound text at
+    pub answer-none : i - at ≡ 0 → None ≡ read_at bound text at
     answer-none k = sym (read-other bound text at (canonical-none (lead_digits (drop at text)) (omega (arith, all-count))))
 
-    pub answer-one : v ≤ bound → i - at ≡ 1 → Number v i ≡ read_at bound text at
+    pub answer-one : v ≤ bound → i - at ≡ 1 → Some (v, i) ≡ read_at bound text at
     answer-one q k =
         sym (read_number bound text at v i (canonical-one (lead_digits (drop at text)) (omega (arith, all-count))) all-value q all-count)
 
@@ -170,9 +169,9 @@ module _ (bound : ℕ) {text : List ℕ} {at v i d : ℕ} (p : Passed text at v 
           lead_digits-first (drop at text) (omega arith) ∙ get_or-drop at text 0 0 ∙ ap (λ (n : ℕ). get_or text n 0) (add-zero at) in
           canonical-more (lead_digits (drop at text)) l ∙ ap (λ (n : ℕ). not (eqb n 48)) e
 
-      pub answer-zero : get_or text at 0 ≡ 48 → Nothing ≡ read_at bound text at
+      pub answer-zero : get_or text at 0 ≡ 48 → None ≡ read_at bound text at
       answer-zero e = sym (read-other bound text at (first_byte ∙ ap not (eq-eqb (get_or text at 0) 48 e)))
 
-      pub answer-more : v ≤ bound → (get_or text at 0 ≡ 48 → ⊥) → Number v i ≡ read_at bound text at
+      pub answer-more : v ≤ bound → (get_or text at 0 ≡ 48 → ⊥) → Some (v, i) ≡ read_at bound text at
       answer-more q e =
           sym (read_number bound text at v i (first_byte ∙ ap not (ne_eqb (get_or text at 0) 48 e)) all-value q all-count)

@@ -8,14 +8,13 @@ use Rattle.lists.specs.Over.{over, over-length}
 use Rattle.decimal.specs.Numeral.{lead_digits, value_from, canonical, numeral, read_at, room, write_at, with_numeral}
 use Rattle.decimal.specs.Value.{lead_digits-again, lead_digits-split, lead_digits-rest, lead_digits-numeral}
 use Rattle.decimal.specs.Value.{value-numeral, canonical-numeral, numeral-canonical}
-use Rattle.decimal.specs.declared.Numeral.TheVariants.{Number, Nothing}
 use Rattle.decimal.specs.declared.Written.TheVariants.{To, NoRoom}
 
 -- Reading
 
 -- a numeral of at most the bound that stands at the place is read
 pub read-stands : (bound n at : ℕ) (text rest : List ℕ) → n ≤ bound → lead_digits rest ≡ [] → drop at text ≡ numeral n ++ rest
-    → read_at bound text at ≡ Number n (at + length (numeral n))
+    → read_at bound text at ≡ Some (n, at + length (numeral n))
 unfolding read_at
 read-stands bound n at text rest h f e =
     let d : lead_digits (drop at text) ≡ numeral n = ap lead_digits e ∙ lead_digits-numeral n rest f in
@@ -23,13 +22,13 @@ read-stands bound n at text rest h f e =
 
 -- A result to be read: what was written reads back.
 pub read-numeral : (bound n : ℕ) (before rest : List ℕ) → n ≤ bound → lead_digits rest ≡ []
-    → read_at bound (before ++ numeral n ++ rest) (length before) ≡ Number n (length before + length (numeral n))
+    → read_at bound (before ++ numeral n ++ rest) (length before) ≡ Some (n, length before + length (numeral n))
 read-numeral bound n before rest h f =
     read-stands bound n (length before) (before ++ numeral n ++ rest) rest h f
     (rw append_assoc (drop-append_seam before (numeral n ++ rest)))
 
 -- A result to be read: where nothing is read, no numeral of at most the bound stands.
-pub read-refuses : (bound : ℕ) (text : List ℕ) (at n : ℕ) (rest : List ℕ) → read_at bound text at ≡ Nothing
+pub read-refuses : (bound : ℕ) (text : List ℕ) (at n : ℕ) (rest : List ℕ) → read_at bound text at ≡ None
     → n ≤ bound → lead_digits rest ≡ [] → drop at text ≡ numeral n ++ rest → ⊥
 read-refuses bound text at n rest e h f d =
     let z : ◌≡◌ {A = ℕ} 0 1 = cc (read-stands bound n at text rest h f d) in
@@ -42,7 +41,7 @@ pub record Accepted (bound : ℕ) (text : List ℕ) (at n next : ℕ) : Type 0 w
   pub stands : drop at text ≡ numeral n ++ drop next text
   pub ends : lead_digits (drop next text) ≡ []
 
-pub read-accepts : (bound : ℕ) (text : List ℕ) (at n next : ℕ) → read_at bound text at ≡ Number n next → Accepted bound text at n next
+pub read-accepts : (bound : ℕ) (text : List ℕ) (at n next : ℕ) → read_at bound text at ≡ Some (n, next) → Accepted bound text at n next
 unfolding read_at
 read-accepts bound text at n next e = go (canonical ds && leb (value_from 0 ds) bound) refl
   where
@@ -52,7 +51,7 @@ read-accepts bound text at n next e = go (canonical ds && leb (value_from 0 ds) 
     go : (t : Bool) → (canonical ds && leb (value_from 0 ds) bound) ≡ t → Accepted bound text at n next
     go true p =
         let both = (and-eq-true_iff (canonical ds) (leb (value_from 0 ds) bound)).0 p in
-        let r : read_at bound text at ≡ Number (value_from 0 ds) (at + length ds) = simp p in
+        let r : read_at bound text at ≡ Some (value_from 0 ds, at + length ds) = simp p in
         let v : n ≡ value_from 0 ds = cc in
         let w : numeral n ≡ ds = ap numeral v ∙ numeral-canonical ds (lead_digits-again (drop at text)) both.0 in
         let x : next ≡ at + length ds = cc in
@@ -63,7 +62,7 @@ read-accepts bound text at n next e = go (canonical ds && leb (value_from 0 ds) 
           ends = rw (x, ← drop-drop (length ds) at text) (lead_digits-rest (drop at text));
         }
     go false p =
-        let r : read_at bound text at ≡ Nothing = simp p in
+        let r : read_at bound text at ≡ None = simp p in
         let z : ◌≡◌ {A = ℕ} 0 1 = cc in
         absurd (omega arith)
 
@@ -115,7 +114,7 @@ with_numeral-length n buf at = go (room n (length buf) at) refl
 
 -- A result to be read: what a write leaves reads back, where no digit follows.
 pub with_numeral-reads : (bound n : ℕ) (buf : List ℕ) (at : ℕ) → n ≤ bound → at + length (numeral n) ≤ length buf
-    → lead_digits (drop (at + length (numeral n)) buf) ≡ [] → read_at bound (with_numeral n buf at) at ≡ Number n (at + length (numeral n))
+    → lead_digits (drop (at + length (numeral n)) buf) ≡ [] → read_at bound (with_numeral n buf at) at ≡ Some (n, at + length (numeral n))
 unfolding over
 with_numeral-reads bound n buf at h fits f =
     let l : length (take at buf) ≡ at = length-take-le at buf (omega arith) in
@@ -129,24 +128,24 @@ unfolding numeral
 numeral-greatest = refl
 
 -- `65535` after a tab and before a line end, at the bound 65535 and at 65534
-read-bound : read_at 65535 (9 ∷ 54 ∷ 53 ∷ 53 ∷ 51 ∷ 53 ∷ 10 ∷ []) 1 ≡ Number 65535 6
+read-bound : read_at 65535 (9 ∷ 54 ∷ 53 ∷ 53 ∷ 51 ∷ 53 ∷ 10 ∷ []) 1 ≡ Some (65535, 6)
 unfolding read_at
 read-bound = refl
 
-read_above : read_at 65534 (9 ∷ 54 ∷ 53 ∷ 53 ∷ 51 ∷ 53 ∷ 10 ∷ []) 1 ≡ Nothing
+read_above : read_at 65534 (9 ∷ 54 ∷ 53 ∷ 53 ∷ 51 ∷ 53 ∷ 10 ∷ []) 1 ≡ None
 unfolding read_at
 read_above = refl
 
 -- `007`
-read-zeros : read_at 4294967295 (48 ∷ 48 ∷ 55 ∷ []) 0 ≡ Nothing
+read-zeros : read_at 4294967295 (48 ∷ 48 ∷ 55 ∷ []) 0 ≡ None
 unfolding read_at
 read-zeros = refl
 
 -- twelve and sixty digits
-read-twelve : read_at 4294967295 (replicate 12 57) 0 ≡ Nothing
+read-twelve : read_at 4294967295 (replicate 12 57) 0 ≡ None
 unfolding read_at
 read-twelve = refl
 
-read-sixty : read_at 4294967295 (replicate 60 49) 0 ≡ Nothing
+read-sixty : read_at 4294967295 (replicate 60 49) 0 ≡ None
 unfolding read_at
 read-sixty = refl

@@ -1,12 +1,8 @@
 -- Decimal numerals as bytes: the numeral of a number, and what reading and writing one at a place of a text answer.
 use Rattle.std.specs.Prelude.{ℕ, zero, suc, ◌+◌, ◌*◌, ◌-◌, ◌/◌, ◌%◌, List, [], ◌∷◌, ◌++◌}
-use Rattle.std.specs.Prelude.{Bool, true, false, not, cond, ◌&&◌, length, drop, leb, ltb, eqb}
+use Rattle.std.specs.Prelude.{Bool, true, false, not, cond, ◌&&◌, length, drop, leb, ltb, eqb, Option, Some, None}
 use Rattle.lists.specs.All.{between}
 use Rattle.lists.specs.Over.{over}
-use Rattle.decimal.specs.declared.Numeral.{Numeral}
-use Rattle.decimal.specs.declared.Numeral.TheVariants.{Number, Nothing}
-use Rattle.decimal.specs.declared.Written.{Written}
-use Rattle.decimal.specs.declared.Written.TheVariants.{To, NoRoom}
 
 -- one of the bytes `0` to `9`
 abbrev pub is_digit : ℕ → Bool
@@ -38,19 +34,19 @@ canonical (b ∷ []) = true
 canonical (b ∷ c ∷ s) = not (eqb b 48)
 
 -- Reading at a place of a text: all digits that stand there, if they are a numeral of at most the bound, and the place after them
-unfoldable pub read_at : ℕ → List ℕ → ℕ → Numeral
+unfoldable pub read_at : ℕ → List ℕ → ℕ → Option (ℕ × ℕ)
 unfolding lead_digits value_from canonical
 read_at bound text at =
     let ds : List ℕ = lead_digits (drop at text) in
-    cond (canonical ds && leb (value_from 0 ds) bound) (Number (value_from 0 ds) (at + length ds)) Nothing
+    cond (canonical ds && leb (value_from 0 ds) bound) (Some (value_from 0 ds, at + length ds)) None
 
 -- whether n's numeral fits into so many bytes from a place
 abbrev pub room : ℕ → ℕ → ℕ → Bool
 room n size at = leb (at + length (numeral n)) size
 
 -- Writing at a place of a buffer of so many bytes: the place after the numeral, or that there is no room
-unfoldable pub write_at : ℕ → ℕ → ℕ → Written
-write_at n size at = cond (room n size at) (To (at + length (numeral n))) NoRoom
+unfoldable pub write_at : ℕ → ℕ → ℕ → Option ℕ
+write_at n size at = cond (room n size at) (Some (at + length (numeral n))) None
 
 -- what the buffer then holds: the numeral at the place and all else as before; where there is no room, all as before
 unfoldable pub with_numeral : ℕ → List ℕ → ℕ → List ℕ

@@ -8,8 +8,6 @@ use Rattle.std.proofs.lemmas.Bool.{false≢true}
 use Rattle.std.proofs.Math.Seq.{take-append_seam, drop-append_seam, drop-length}
 use Rattle.decimal.specs.Numeral.{numeral, lead_digits, read_at}
 use Rattle.decimal.specs.Laws.{read-stands, read-accepts}
-use Rattle.decimal.specs.declared.Numeral.{Numeral}
-use Rattle.decimal.specs.declared.Numeral.TheVariants.{Number, Nothing}
 use Rattle.script_line.specs.declared.Verb.{Verb}
 use Rattle.script_line.specs.declared.Verb.TheVariants.{Catch, Send, Written, Ack, Drop, Join, Take}
 use Rattle.script_line.specs.declared.Step.TheVariants.{Main, At}
@@ -59,7 +57,7 @@ same-decides xs ys false is back = by (same xs ys) refl
 
 -- what is written reads back
 pub number_after-reads : (word : List ℕ) (bound n : ℕ) → n ≤ bound
-    → number_after word bound (word ++ numeral n) ≡ Number n (length word + length (numeral n))
+    → number_after word bound (word ++ numeral n) ≡ Some (n, length word + length (numeral n))
 unfolding number_after lead_digits
 number_after-reads word bound n h =
     let seam = drop-append_seam word (numeral n) ∙ sym (append-nil (numeral n)) in
@@ -71,33 +69,33 @@ pub record Holds (word : List ℕ) (bound : ℕ) (line : List ℕ) (n : ℕ) : T
   pub within : n ≤ bound
   pub written : line ≡ word ++ numeral n
 
-nothing-number : (n next : ℕ) → Nothing ≡ Number n next → ⊥
+nothing-number : (n next : ℕ) → None ≡ Some (n, next) → ⊥
 nothing-number n next e = let z : ◌≡◌ {A = ℕ} 0 1 = cc in omega arith
 
 -- a word at the front, and after it a numeral up to the end
 holds-word : (word : List ℕ) (bound : ℕ) (line : List ℕ) (n next : ℕ) → take (length word) line ≡ word
-    → read_at bound line (length word) ≡ Number n next → next ≡ length line → Holds word bound line n
+    → read_at bound line (length word) ≡ Some (n, next) → next ≡ length line → Holds word bound line n
 holds-word word bound line n next starts r l =
     let a = read-accepts bound line (length word) n next r in
     let rest : drop (length word) line ≡ numeral n = a.stands ∙ rw (l, drop-length) (append-nil (numeral n)) in
     record { within = a.within; written = (cc (take-append-drop (length word) line)) }
 
-pub number_after-accepts : (word : List ℕ) (bound : ℕ) (line : List ℕ) (n next : ℕ) → number_after word bound line ≡ Number n next
+pub number_after-accepts : (word : List ℕ) (bound : ℕ) (line : List ℕ) (n next : ℕ) → number_after word bound line ≡ Some (n, next)
     → Holds word bound line n
 unfolding number_after
 number_after-accepts word bound line n next e = by (same (take (length word) line) word) refl (read_at bound line (length word)) refl
   where
-    by : (b : Bool) → same (take (length word) line) word ≡ b → (f : Numeral) → read_at bound line (length word) ≡ f →
+    by : (b : Bool) → same (take (length word) line) word ≡ b → (f : Option (ℕ × ℕ)) → read_at bound line (length word) ≡ f →
         Holds word bound line n
-    by true p (Number m k) r = at-end (eqb k (length line)) refl
+    by true p (Some (m, k)) r = at-end (eqb k (length line)) refl
       where
         at-end : (b : Bool) → eqb k (length line) ≡ b → Holds word bound line n
         at-end true q =
-            let s : Number m k ≡ Number n next = simp (p, r, q) at e in
+            let s : Some (m, k) ≡ Some (n, next) = simp (p, r, q) at e in
             let m-is : m ≡ n = cc in
             holds-word word bound line n k (same-equal _ _ p) (rw m-is at r) (eqb-true k (length line) q)
         at-end false q = absurd (nothing-number n next (simp (p, r, q) at e))
-    by true p Nothing r = absurd (nothing-number n next (simp (p, r) at e))
+    by true p None r = absurd (nothing-number n next (simp (p, r) at e))
     by false p f r = absurd (nothing-number n next (simp p at e))
 
 -- ------------------------------------------------------------------------
@@ -124,9 +122,9 @@ says-or : (verb : Verb) (line : List ℕ) (other : StepLine) → Says line other
 unfolding Says
 says-or verb line other s = by (number_after (word_of verb) 99 line) refl
   where
-    by : (f : Numeral) → number_after (word_of verb) 99 line ≡ f → Says line (step_or verb f other)
-    by (Number w next) e = number_after-accepts (word_of verb) 99 line w next e
-    by Nothing e = s
+    by : (f : Option (ℕ × ℕ)) → number_after (word_of verb) 99 line ≡ f → Says line (step_or verb f other)
+    by (Some (w, next)) e = number_after-accepts (word_of verb) 99 line w next e
+    by None e = s
 
 -- A result to be read: what a step that is read says of the line
 pub step_of-says : (line : List ℕ) → Says line (step_of line)
@@ -160,8 +158,8 @@ pub windows_of-accepts : (line : List ℕ) (n : ℕ) → windows_of line ≡ Cou
 unfolding windows_of
 windows_of-accepts line n e = by (number_after windows_word 16 line) refl
   where
-    by : (f : Numeral) → number_after windows_word 16 line ≡ f → (1 ≤ n) × Holds windows_word 16 line n
-    by (Number m next) r = counted (leb 1 m) refl
+    by : (f : Option (ℕ × ℕ)) → number_after windows_word 16 line ≡ f → (1 ≤ n) × Holds windows_word 16 line n
+    by (Some (m, next)) r = counted (leb 1 m) refl
       where
         counted : (b : Bool) → leb 1 m ≡ b → (1 ≤ n) × Holds windows_word 16 line n
         counted true q =
@@ -169,7 +167,7 @@ windows_of-accepts line n e = by (number_after windows_word 16 line) refl
             let m-is : m ≡ n = cc in
             (rw m-is at (leb-true 1 m q), number_after-accepts windows_word 16 line n next (rw m-is at r))
         counted false q = absurd (malformed-count n (simp (r, q) at e))
-    by Nothing r = absurd (malformed-count n (simp r at e))
+    by None r = absurd (malformed-count n (simp r at e))
 
 -- ------------------------------------------------------------------------
 -- examples, to be read

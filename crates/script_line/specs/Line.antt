@@ -1,8 +1,6 @@
 -- Document 01, "One run, whole": the lines of the runner's input beside the journal, without their LF, and what reading one answers.
 use Rattle.std.specs.Prelude.{ℕ, List, [], ◌∷◌, Bool, true, false, cond, ◌&&◌, length, take, leb, eqb}
 use Rattle.decimal.specs.Numeral.{read_at}
-use Rattle.decimal.specs.declared.Numeral.{Numeral}
-use Rattle.decimal.specs.declared.Numeral.TheVariants.{Number, Nothing}
 use Rattle.script_line.specs.declared.Verb.{Verb}
 use Rattle.script_line.specs.declared.Verb.TheVariants.{Catch, Send, Written, Ack, Drop, Join, Take}
 use Rattle.script_line.specs.declared.Step.TheVariants.{Main, At}
@@ -48,14 +46,14 @@ same (x ∷ xs) [] = false
 same (x ∷ xs) (y ∷ ys) = eqb x y && same xs ys
 
 -- a numeral of at most the bound that ends where the line ends
-abbrev pub whole : ℕ → Numeral → Numeral
-whole size (Number n next) = cond (eqb next size) (Number n next) Nothing
-whole size Nothing = Nothing
+abbrev pub whole : ℕ → Option (ℕ × ℕ) → Option (ℕ × ℕ)
+whole size (Some (n, next)) = cond (eqb next size) (Some (n, next)) None
+whole size None = None
 
 -- the number after a word, up to a bound: the line is the word and then the number's numeral
-unfoldable pub number_after : List ℕ → ℕ → List ℕ → Numeral
+unfoldable pub number_after : List ℕ → ℕ → List ℕ → Option (ℕ × ℕ)
 number_after word bound line =
-    cond (same (take (length word) line) word) (whole (length line) (read_at bound line (length word))) Nothing
+    cond (same (take (length word) line) word) (whole (length line) (read_at bound line (length word))) None
 
 -- the word of a step that has a window
 abbrev pub word_of : Verb → List ℕ
@@ -68,9 +66,9 @@ word_of Join = join_word
 word_of Take = take_word
 
 -- a word's step at the number that is found, or another
-abbrev pub step_or : Verb → Numeral → StepLine → StepLine
-step_or verb (Number w next) other = StepLine.Step (At verb w)
-step_or verb Nothing other = other
+abbrev pub step_or : Verb → Option (ℕ × ℕ) → StepLine → StepLine
+step_or verb (Some (w, next)) other = StepLine.Step (At verb w)
+step_or verb None other = other
 
 -- a word and a window of 0 to 99, or another
 abbrev pub windowed_or : Verb → List ℕ → StepLine → StepLine
@@ -88,9 +86,9 @@ unfoldable pub step_of : List ℕ → StepLine
 step_of line = cond (same line main_word) (StepLine.Step Main) (windowed_of line)
 
 -- a number of windows, at least 1
-abbrev pub count_in : Numeral → Windows
-count_in (Number n next) = cond (leb 1 n) (Windows.Count n) Windows.Malformed
-count_in Nothing = Windows.Malformed
+abbrev pub count_in : Option (ℕ × ℕ) → Windows
+count_in (Some (n, next)) = cond (leb 1 n) (Windows.Count n) Windows.Malformed
+count_in None = Windows.Malformed
 
 -- the first line: `windows` and a number of 1 to 16
 unfoldable pub windows_of : List ℕ → Windows

@@ -6,11 +6,11 @@ use Rattle.script_line.proofs.read_windows.Goals as goal
 
 pub returns-then-n-ge1 : goal.returns-then-n-ge1
 unfolding windows_of
-returns-then-n-ge1 c = simp (sym c.in-Number.ensures, le-leb _ _ c.if-n-ge1.true)
+returns-then-n-ge1 c = simp (sym c.in-Some.ensures, le-leb _ _ c.if-n-ge1.true)
 
 pub returns-else-n-ge1 : goal.returns-else-n-ge1
 unfolding windows_of
-returns-else-n-ge1 c = simp (sym c.in-Number.ensures, lt-leb _ _ c.if-n-ge1.false)
+returns-else-n-ge1 c = simp (sym c.in-Some.ensures, lt-leb _ _ c.if-n-ge1.false)
 
 pub returns-in_default : goal.returns-in_default
 unfolding windows_of
