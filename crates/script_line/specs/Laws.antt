@@ -4,6 +4,7 @@ use Rattle.std.specs.Prelude.{ℕ, ◌+◌, ◌≤◌, ◌<◌, ◌≡◌, refl,
 use Rattle.std.proofs.Common.{rules, sym, ap, ◌∙◌, append-nil, eq-eqb, eqb-true}
 use Rattle.std.proofs.Common.{le-leb, leb-true, arith, length-append, length-take, take-append-drop}
 use Rattle.std.proofs.lemmas.Slice.Eq.{bytes_eq-Decides}
+use Rattle.std.proofs.lemmas.Option.{none-some, some_pair_parts}
 use Rattle.std.proofs.Math.Seq.{take-append_seam, drop-append_seam, drop-length}
 use Rattle.decimal.specs.Numeral.{numeral, lead_digits, read_at}
 use Rattle.decimal.specs.Laws.{read-stands, read-accepts}
@@ -59,9 +60,6 @@ pub record Holds (word : List ℕ) (bound : ℕ) (line : List ℕ) (n : ℕ) : T
   pub within : n ≤ bound
   pub written : line ≡ word ++ numeral n
 
-none-number : (n next : ℕ) → ◌≡◌ {A = Option (ℕ × ℕ)} None (Some (n, next)) → ⊥
-none-number n next e = cc
-
 -- a word at the front, and after it a numeral up to the end
 holds-word : (word : List ℕ) (bound : ℕ) (line : List ℕ) (n next : ℕ) → take (length word) line ≡ word
     → read_at bound line (length word) ≡ Some (n, next) → next ≡ length line → Holds word bound line n
@@ -82,12 +80,11 @@ number_after-accepts word bound line n next e = by (same (take (length word) lin
         at-end : (b : Bool) → eqb k (length line) ≡ b → Holds word bound line n
         at-end true q =
             let s : ◌≡◌ {A = Option (ℕ × ℕ)} (Some (m, k)) (Some (n, next)) = simp (p, r, q) at e in
-            let both : ◌≡◌ {A = ℕ × ℕ} (m, k) (n, next) = cc in
-            let m-is : m ≡ n = ap (λ (x : ℕ × ℕ). x.0) both in
+            let m-is : m ≡ n = (some_pair_parts m n k next s).0 in
             holds-word word bound line n k (same-equal _ _ p) (rw m-is at r) (eqb-true k (length line) q)
-        at-end false q = absurd (none-number n next (simp (p, r, q) at e))
-    by true p None r = absurd (none-number n next (simp (p, r) at e))
-    by false p f r = absurd (none-number n next (simp p at e))
+        at-end false q = absurd (none-some _ (simp (p, r, q) at e))
+    by true p None r = absurd (none-some _ (simp (p, r) at e))
+    by false p f r = absurd (none-some _ (simp p at e))
 
 -- ------------------------------------------------------------------------
 -- step_of
@@ -141,9 +138,6 @@ pub windows_of-reads : (n : ℕ) → 1 ≤ n → n ≤ 16 → windows_of (window
 unfolding windows_of
 windows_of-reads n p h = simp (number_after-reads windows_word 16 n h, le-leb 1 n p)
 
-none-count : (n : ℕ) → None ≡ Some n → ⊥
-none-count n e = cc
-
 -- A result to be read: what a number of windows that is read says of the line
 pub windows_of-accepts : (line : List ℕ) (n : ℕ) → windows_of line ≡ Some n → (1 ≤ n) × Holds windows_word 16 line n
 unfolding windows_of
@@ -157,8 +151,8 @@ windows_of-accepts line n e = by (number_after windows_word 16 line) refl
             let s : Some m ≡ Some n = simp (r, q) at e in
             let m-is : m ≡ n = cc in
             (rw m-is at (leb-true 1 m q), number_after-accepts windows_word 16 line n next (rw m-is at r))
-        counted false q = absurd (none-count n (simp (r, q) at e))
-    by None r = absurd (none-count n (simp r at e))
+        counted false q = absurd (none-some n (simp (r, q) at e))
+    by None r = absurd (none-some n (simp r at e))
 
 -- ------------------------------------------------------------------------
 -- examples, to be read
