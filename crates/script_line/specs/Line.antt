@@ -1,11 +1,11 @@
 -- Document 01, "One run, whole": the lines of the runner's input beside the journal, without their LF, and what reading one answers.
-use Rattle.std.specs.Prelude.{ℕ, List, [], ◌∷◌, Bool, true, false, cond, ◌&&◌, length, take, leb, eqb}
+use Rattle.std.specs.Prelude.{ℕ, List, [], ◌∷◌, Bool, cond, length, take, leb, eqb, Option, Some, None}
+use Rattle.std.specs.Str.{bytes_eq}
 use Rattle.decimal.specs.Numeral.{read_at}
 use Rattle.script_line.specs.declared.Verb.{Verb}
 use Rattle.script_line.specs.declared.Verb.TheVariants.{Catch, Send, Written, Ack, Drop, Join, Take}
 use Rattle.script_line.specs.declared.Step.TheVariants.{Main, At}
-use Rattle.script_line.specs.declared.StepLine.{StepLine}
-use Rattle.script_line.specs.declared.Windows.{Windows}
+use Rattle.script_line.specs.declared.Step.{Step}
 
 -- the words of the lines, each with the blank before its number
 abbrev pub main_word : List ℕ
@@ -39,11 +39,8 @@ abbrev pub take_word : List ℕ
 take_word = 116 ∷ 97 ∷ 107 ∷ 101 ∷ 32 ∷ []
 
 -- whether two lists of bytes are the same
-unfoldable pub same : List ℕ → List ℕ → Bool
-same [] [] = true
-same [] (y ∷ ys) = false
-same (x ∷ xs) [] = false
-same (x ∷ xs) (y ∷ ys) = eqb x y && same xs ys
+abbrev pub same : List ℕ → List ℕ → Bool
+same = bytes_eq
 
 -- a numeral of at most the bound that ends where the line ends
 abbrev pub whole : ℕ → Option (ℕ × ℕ) → Option (ℕ × ℕ)
@@ -66,30 +63,30 @@ word_of Join = join_word
 word_of Take = take_word
 
 -- a word's step at the number that is found, or another
-abbrev pub step_or : Verb → Option (ℕ × ℕ) → StepLine → StepLine
-step_or verb (Some (w, next)) other = StepLine.Step (At verb w)
+abbrev pub step_or : Verb → Option (ℕ × ℕ) → Option Step → Option Step
+step_or verb (Some (w, next)) other = Some (At verb w)
 step_or verb None other = other
 
 -- a word and a window of 0 to 99, or another
-abbrev pub windowed_or : Verb → List ℕ → StepLine → StepLine
+abbrev pub windowed_or : Verb → List ℕ → Option Step → Option Step
 windowed_or verb line other = step_or verb (number_after (word_of verb) 99 line) other
 
-abbrev pub windowed_of : List ℕ → StepLine
+abbrev pub windowed_of : List ℕ → Option Step
 windowed_of line =
     windowed_or Catch line
     (windowed_or Send line
     (windowed_or Written line
-    (windowed_or Ack line (windowed_or Drop line (windowed_or Join line (windowed_or Take line StepLine.Malformed))))))
+    (windowed_or Ack line (windowed_or Drop line (windowed_or Join line (windowed_or Take line None))))))
 
 -- a step line: `main`, or a word and a window
-unfoldable pub step_of : List ℕ → StepLine
-step_of line = cond (same line main_word) (StepLine.Step Main) (windowed_of line)
+unfoldable pub step_of : List ℕ → Option Step
+step_of line = cond (same line main_word) (Some Main) (windowed_of line)
 
 -- a number of windows, at least 1
-abbrev pub count_in : Option (ℕ × ℕ) → Windows
-count_in (Some (n, next)) = cond (leb 1 n) (Windows.Count n) Windows.Malformed
-count_in None = Windows.Malformed
+abbrev pub count_in : Option (ℕ × ℕ) → Option ℕ
+count_in (Some (n, next)) = cond (leb 1 n) (Some n) None
+count_in None = None
 
 -- the first line: `windows` and a number of 1 to 16
-unfoldable pub windows_of : List ℕ → Windows
+unfoldable pub windows_of : List ℕ → Option ℕ
 windows_of line = count_in (number_after windows_word 16 line)
