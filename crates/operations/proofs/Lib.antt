@@ -1,5 +1,2 @@
--- What the proofs share besides the laws of specs/: an operation on a window, Send, Main and Start.
+-- What the proofs share besides the laws of specs/: an operation on a window.
 mod Operate
-mod Sent
-mod Advanced
-mod Started
