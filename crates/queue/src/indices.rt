@@ -6,12 +6,6 @@ ghost use Rattle.lists.specs.All.{all, queued_in};
 use crate::{Cell, Queue};
 
 impl Queue {
-    // A fresh queue. A constant of every row would say nothing of its value to a proof.
-    pub const FRESH: Queue = Queue {
-        cells: [0; 128],
-        len: 0,
-    };
-
     // Whether a cell can hold the number. Every index of a journal in shape is such a number.
     pub fn fits_cell(x: u32) -> bool
         ensures { result ≡ fits_cell x }

@@ -2,17 +2,24 @@
 ghost use Rattle.std.specs.Prelude.{◌≡◌, [], length, slice_get};
 ghost use Rattle.queue.specs.Items.{items_in, fresh_row, pushed, skipped};
 
-use crate::{Item, Row};
+use crate::{Fresh, Item, Row};
+
+impl<T: Item, const N: usize> Fresh for Row<T, N> {
+    ghost FRESH = { fresh_row N T.NONE };
+
+    // A row without items.
+    const FRESH: Row<T, N> = Row {
+        cells: [T::NONE; N],
+        len: 0,
+    };
+}
 
 impl<T: Item, const N: usize> Row<T, N> {
     // A row without items.
     pub fn new() -> Row<T, N>
         ensures { result ≡ fresh_row N T.NONE }
     {
-        Row {
-            cells: [T::NONE; N],
-            len: 0,
-        }
+        Self::FRESH
     }
 
     // The row with one more item at its end, or as it was where it is full.
@@ -44,10 +51,7 @@ impl<T: Item, const N: usize> Row<T, N> {
     pub fn clear(self) -> Row<T, N>
         ensures { items_in T.NONE result ≡ [] }
     {
-        Row {
-            cells: self.cells,
-            len: 0,
-        }
+        Row { len: 0, ..self }
     }
 
     // The item at the place k, counted from 0.
