@@ -84,7 +84,12 @@ pub fn ack_on(mut player: Player, journal: &[u32], w: u32, term: Term, index: In
 pub fn drop_on(mut player: Player, journal: &[u32], w: u32) -> Played
     ensures { Meets player result (drop_rule journal.now w (player_of player)) }
 {
-    let answer = at_window(&mut player, journal, w, |window| window_line::drop_at(window));
+    let answer = at_window(
+        &mut player,
+        journal,
+        w,
+        |window| window_line::drop_at(window),
+    );
     Played { answer, player }
 }
 
@@ -106,9 +111,9 @@ fn send(player: &mut Player, journal: &[u32], w: u32, out: &mut [u32]) -> Answer
         (send_rule journal.now w (length out.old) (player_of player.old)))
         × (out.new ≡ send_output journal.now w out.old (player_of player.old)) }
 {
-    let at = place(player, journal, w)?;
-    let sent = window_send::send_at(player.windows[at], journal, w, player.limit, out);
-    player.windows[at] = sent.window;
+    let from = place(player, journal, w)?;
+    let sent = window_send::send_at(player.windows[from], journal, w, player.limit, out);
+    player.windows[from] = sent.window;
     sent.answer
 }
 

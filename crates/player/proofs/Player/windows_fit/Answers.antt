@@ -1,5 +1,5 @@
 -- The iterator yields the windows that count, and the closure is the test.
-use Rattle.std.specs.Prelude.{ℕ, ◌≡◌, true, false}
+use Rattle.std.specs.Prelude.{◌≡◌, true, false}
 use Rattle.std.proofs.Common.{◌∙◌, sym, arith}
 use borrow.Author.Rules.{rules}
 use borrow.Author.Tests.{tests}

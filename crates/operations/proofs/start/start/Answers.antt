@@ -5,24 +5,24 @@ use Rattle.journal.specs.Entry.{count_of}
 use Rattle.lists.specs.All.{all}
 use Rattle.rules.specs.Rules.{said, is_start_report}
 use Rattle.operations.proofs.Started.{start-shapeless, start-unspaced, start-refused, start-done, started-player}
-use Rattle.operations.proofs.start.start_on.Goals as goal
+use Rattle.operations.proofs.start.start.Goals as goal
 
 pub returns-then-not-start_in_shape : goal.returns-then-not-start_in_shape
-returns-then-not-start_in_shape c = start-shapeless _ _ _ _ _ (sym c.start_in_shape.ensures ∙ c.if-not-start_in_shape.true)
+returns-then-not-start_in_shape c = λ before. start-shapeless _ _ _ _ _ (sym c.start_in_shape.ensures ∙ c.if-not-start_in_shape.true)
 
 pub returns-then-not-spacing_fits : goal.returns-then-not-spacing_fits
-returns-then-not-spacing_fits c =
+returns-then-not-spacing_fits c = λ before.
     start-unspaced _ _ _ _ _ (sym c.start_in_shape.ensures ∙ c.if-not-start_in_shape.false)
     (sym c.spacing_fits.ensures ∙ c.if-not-spacing_fits.true)
 
 pub returns-then-not-are_reports : goal.returns-then-not-are_reports
-returns-then-not-are_reports c =
+returns-then-not-are_reports c = λ before.
     start-refused _ _ _ _ _ (sym c.start_in_shape.ensures ∙ c.if-not-start_in_shape.false)
     (sym c.spacing_fits.ensures ∙ c.if-not-spacing_fits.false)
     (rw c.entries-l.ensures at (sym c.are_reports.ensures ∙ c.if-not-are_reports.true))
 
 pub returns : goal.returns
-returns c =
+returns c = λ before.
     let args = c.args in
     let l = c.entries-l.ensures in
     let right : all (is_start_report (count_of args.journal.now)) (said args.settings.silent args.reports.now) ≡ true =
