@@ -1,5 +1,5 @@
 -- A step that is answered before the player is asked: the stage is as it was.
-use Rattle.std.specs.Prelude.{ℕ, ◌≤◌, ◌≡◌, refl, List, Bool, true, false, cond, ◌&&◌, length, leb, ltb}
+use Rattle.std.specs.Prelude.{ℕ, ◌≤◌, ◌≡◌, refl, List, Bool, true, false, cond, ◌&&◌, length, leb, ltb, Option, Some, None}
 use Rattle.std.proofs.Common.{sym, ap, ◌∙◌, true≢false, arith, eqb-true, leb-true}
 use Rattle.std.proofs.lemmas.Bool.{false≢true}
 use Rattle.journal.specs.Entry.{in_shape, entries_of}
@@ -7,8 +7,6 @@ use Rattle.script_line.specs.declared.Step.{Step}
 use Rattle.script_line.specs.declared.Step.TheVariants.{Main, At}
 use Rattle.script_line.specs.declared.Verb.TheVariants.{Catch, Send, Written, Ack, Drop, Join, Take}
 use Rattle.script.specs.declared.slot.Slot.{Slot}
-use Rattle.script.specs.declared.early.Early.{Early}
-use Rattle.script.specs.declared.early.Early.TheVariants as early
 use Rattle.script.specs.declared.Stage.{Stage}
 use Rattle.script.specs.declared.Reply.{Reply}
 use Rattle.script.specs.declared.Reply.TheVariants.{Answered, Empty}
@@ -62,21 +60,21 @@ module _ (ns : List ℕ) (s : Stage) (st : Step) (x : Slot) (here : s.player.cou
     pub can : playable ns s st ≡ true
     pub has : lacks x st ≡ false
 
-  pub early-none : {e : Early} → e ≡ early_at ns s.player.count x st → e ≡ early.None → GoesOn
+  pub early-none : {e : Option Reply} → e ≡ early_at ns s.player.count x st → e ≡ None → GoesOn
   early-none is none = by test refl (lacks x st) refl (sym is ∙ none)
     where
       by : (a : Bool) → test ≡ a → (b : Bool) → lacks x st ≡ b →
-          cond a (cond b (early.Answer (cond x.there Empty (Answered 2))) early.None) (early.Answer (Answered 1)) ≡ early.None → GoesOn
+          cond a (cond b (Some (cond x.there Empty (Answered 2))) None) (Some (Answered 1)) ≡ None → GoesOn
       by true p true q e = let z : ◌≡◌ {A = ℕ} 0 1 = cc in absurd (omega arith)
       by true p false q e = record { can = sym test-playable ∙ p; has = q }
       by false p b q e = let z : ◌≡◌ {A = ℕ} 0 1 = cc in absurd (omega arith)
 
-  pub early-plays : (y : Reply) → length s.records ≡ 16 → length s.lines ≡ 16 → {e : Early} →
-      e ≡ early_at ns s.player.count x st → e ≡ early.Answer y → Plays ns s st (record { reply = y; stage = s })
+  pub early-plays : (y : Reply) → length s.records ≡ 16 → length s.lines ≡ 16 → {e : Option Reply} →
+      e ≡ early_at ns s.player.count x st → e ≡ Some y → Plays ns s st (record { reply = y; stage = s })
   early-plays y records lines is answer = by test refl (lacks x st) refl (sym is ∙ answer)
     where
       by : (a : Bool) → test ≡ a → (b : Bool) → lacks x st ≡ b →
-          cond a (cond b (early.Answer (cond x.there Empty (Answered 2))) early.None) (early.Answer (Answered 1)) ≡ early.Answer y →
+          cond a (cond b (Some (cond x.there Empty (Answered 2))) None) (Some (Answered 1)) ≡ Some y →
           Plays ns s st (record { reply = y; stage = s })
       by true p true q e =
           let can = sym test-playable ∙ p in

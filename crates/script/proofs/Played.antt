@@ -40,25 +40,10 @@ use Rattle.script.proofs.EarlyLaws.{plays-still}
 -- ------------------------------------------------------------------------
 -- Made
 
--- what the call of a step gave, what is in the output, and the step as it still is
-pub record Made (ns : List ℕ) (p : Player) (x : Slot) (st still : Step) (r : Played) (out : List ℕ) : Type 0 where
-  pub same : still ≡ st
+-- what the call of a step gave, and what is in the output
+pub record Made (ns : List ℕ) (p : Player) (x : Slot) (st : Step) (r : Played) (out : List ℕ) : Type 0 where
   pub meets : Meets p r (outcome_at ns p x st)
   pub wrote : out ≡ output_at ns p st
-
--- in the arm of Main, and in that of a verb
-pub made-main : (ns : List ℕ) (p : Player) (x : Slot) {st still : Step} {r r' : Played} {out : List ℕ} → st ≡ Main → still ≡ st → r ≡ r' →
-    out ≡ output_at ns p Main → Meets p r' (outcome_at ns p x Main) → Made ns p x st still r out
-made-main ns p x from same is wrote meets = record { same = same; meets = rw (from, is) meets; wrote = rw from wrote }
-
-pub made_at : (ns : List ℕ) (p : Player) (x : Slot) {st still : Step} {verb v : Verb} {w : ℕ} {r r' : Played} {out out' : List ℕ} →
-    st ≡ At verb w → verb ≡ v → still ≡ At verb w → r ≡ r' → out ≡ out' → Meets p r' (outcome_at ns p x (At v w)) →
-    out' ≡ output_at ns p (At v w) → Made ns p x st still r out
-made_at ns p x from told same is output meets wrote = record {
-  same = same ∙ sym from;
-  meets = rw (from, told, is) meets;
-  wrote = rw (from, told, output) wrote;
-}
 
 -- Take asks nothing
 pub unasked : (p : Player) (r : Played) → r.player ≡ p → number_of r.answer ≡ 0 → Meets p r (record { answer = 0; next = player_of p })
@@ -132,13 +117,13 @@ module _ (ns : List ℕ) (s : Stage) (h : Staged s) (e : in_shape ns ≡ true) w
   step-refuses (At Join w) r has k n = refused-steps ns s h e _ r _ (rejoined w) (join-calls ns s h e w) k n
   step-refuses (At Take w) r has k n = absurd (n k.answer)
 
-  step-does : (st still : Step) (r : Played) (out : List ℕ) (y : Settled) → lacks (slot st) st ≡ false →
-      Made ns s.player (slot st) st still r out → number_of r.answer ≡ 0 → Settles (slot st) st out y →
+  step-does : (st : Step) (r : Played) (out : List ℕ) (y : Settled) → lacks (slot st) st ≡ false →
+      Made ns s.player (slot st) st r out → number_of r.answer ≡ 0 → Settles (slot st) st out y →
       Steps (entries_of ns) s st (stored_by s (window_of st) r.player y)
   unfolding catch_rule written_rule drop_rule
-  step-does st still r out y has k z f = by st has k f (step-within st has (sym k.meets.answer ∙ z))
+  step-does st r out y has k z f = by st has k f (step-within st has (sym k.meets.answer ∙ z))
     where
-      by : (st : Step) → lacks (slot st) st ≡ false → Made ns s.player (slot st) st still r out → Settles (slot st) st out y →
+      by : (st : Step) → lacks (slot st) st ≡ false → Made ns s.player (slot st) st r out → Settles (slot st) st out y →
           window_of st < s.player.count → Steps (entries_of ns) s st (stored_by s (window_of st) r.player y)
       by Main has k f l = rw f (called-steps ns s h e Main _ r _ (main-calls ns s h e) k.meets (main_rule-count ns _ player) z l)
       by (At Catch w) has k f l = rw f (called-steps ns s h e _ w r _ (catch-calls ns s h e w) k.meets (operate-count ns w _ player) z l)
@@ -156,15 +141,15 @@ module _ (ns : List ℕ) (s : Stage) (h : Staged s) (e : in_shape ns ≡ true) w
 
 -- of a slot that is known to be the step's, where the step goes on
 module _ (ns : List ℕ) (s : Stage) (h : Staged s) (st : Step) (x : Slot) (here : x ≡ slot_in (window_of st) s)
-    (can : playable ns s st ≡ true) (has : lacks x st ≡ false) (still : Step) (r : Played) (out : List ℕ)
-    (k : Made ns s.player x st still r out) where
+    (can : playable ns s st ≡ true) (has : lacks x st ≡ false) (r : Played) (out : List ℕ)
+    (k : Made ns s.player x st r out) where
   journal : in_shape ns ≡ true
   journal = (playable-facts ns s st can).journal
 
   lacks-here : lacks (slot_in (window_of st) s) st ≡ false
   lacks-here = ap (λ x. lacks x st) (sym here) ∙ has
 
-  made-here : Made ns s.player (slot_in (window_of st) s) st still r out
+  made-here : Made ns s.player (slot_in (window_of st) s) st r out
   made-here = rw here at k
 
   pub plays-within : number_of r.answer ≡ 0 → window_of st < s.player.count
@@ -179,14 +164,14 @@ module _ (ns : List ℕ) (s : Stage) (h : Staged s) (st : Step) (x : Slot) (here
       (λ c. absurd (true≢false (sym can ∙ c))))
 
   pub plays-done : (w : ℕ) (y : Settled) (after : Stepped) → after ≡ stored_by s w r.player y → w ≡ window_of st →
-      number_of r.answer ≡ 0 → Settles x still out y → Plays ns s st after
+      number_of r.answer ≡ 0 → Settles x st out y → Plays ns s st after
   plays-done w y after gives is z f =
       let l = plays-within z in
       rw (gives, is)
       (record {
-        played = λ c. step-does ns s h journal st still r out y lacks-here made-here z (rw (k.same, here) at f);
+        played = λ c. step-does ns s h journal st r out y lacks-here made-here z (rw here at f);
         stuck = λ c. absurd (true≢false (sym can ∙ c));
-        refused = λ c. absurd (true≢false (sym c ∙ settles-reply x still out y f));
+        refused = λ c. absurd (true≢false (sym c ∙ settles-reply x st out y f));
         above = record {
           windows = k.meets.above;
           records = drop-set-lt s.player.count s.records (window_of st) y.record l;

@@ -1,5 +1,5 @@
 -- What the private functions promise: what a stage has for one window, what a step is answered early, asks of the player, and leaves there.
-use Rattle.std.specs.Prelude.{ℕ, ◌+◌, ◌≡◌, List, Bool, true, false, cond, ◌&&◌, get_or, set, replicate, ltb, leb, eqb}
+use Rattle.std.specs.Prelude.{ℕ, ◌+◌, ◌≡◌, List, Bool, true, false, cond, ◌&&◌, get_or, set, replicate, ltb, leb, eqb, Option, Some, None}
 use Rattle.journal.specs.declared.Index.{Index}
 use Rattle.journal.specs.Entry.{in_shape, five_of}
 use Rattle.record.specs.declared.Record.{Record}
@@ -14,10 +14,9 @@ use Rattle.script_line.specs.declared.Step.TheVariants.{Main, At}
 use Rattle.script_line.specs.declared.Verb.TheVariants.{Catch, Send, Written, Ack, Drop, Join, Take}
 use Rattle.script.specs.declared.line.Line.{Line}
 use Rattle.script.specs.declared.slot.Slot.{Slot}
-use Rattle.script.specs.declared.early.Early.{Early}
-use Rattle.script.specs.declared.early.Early.TheVariants as early
 use Rattle.script.specs.declared.settle.Settled.{Settled}
 use Rattle.script.specs.declared.Stage.{Stage}
+use Rattle.script.specs.declared.Reply.{Reply}
 use Rattle.script.specs.declared.Reply.TheVariants.{Answered, Empty}
 use Rattle.script.specs.declared.Stepped.{Stepped}
 use Rattle.script.specs.Line.{placed_of, no_sent, no_ack, fresh_line, batch_shown, Grown, TakenOff, AckedOff}
@@ -75,11 +74,11 @@ lacks x (At Drop w) = false
 lacks x (At Join w) = false
 lacks x (At Take w) = eqb x.line.entries.len 0
 
-abbrev pub early_at : List ℕ → ℕ → Slot → Step → Early
+abbrev pub early_at : List ℕ → ℕ → Slot → Step → Option Reply
 early_at ns count x st =
     cond (in_shape ns && (leb count 16 && has_room x))
-    (cond (lacks x st) (early.Answer (cond x.there Empty (Answered 2))) early.None)
-    (early.Answer (Answered 1))
+    (cond (lacks x st) (Some (cond x.there Empty (Answered 2))) None)
+    (Some (Answered 1))
 
 -- ------------------------------------------------------------------------
 -- What a step asks of the player

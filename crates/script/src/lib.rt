@@ -20,21 +20,22 @@ pub struct Stage {
     pub lines: [Line; 16],
 }
 
-// What a step answers: the papers' number, or that a Take or an Ack found its line empty.
-#[derive(Clone, Copy)]
+// What a step answers: the papers' number, or that a Take or an Ack found its line empty. No Option: Empty is an answer, which is
+// printed as such, and the name says what None would not.
+#[derive(Clone, Copy, Debug, PartialEq, Eq)]
 pub enum Reply {
     Answered(u32),
     Empty,
 }
 
-// A reply beside the stage as it then is.
+// A reply beside the stage as it then is: a step gives back a stage whatever it answers.
 #[derive(Clone, Copy)]
 pub struct Stepped {
     pub stage: Stage,
     pub reply: Reply,
 }
 
-// Whether a stage was opened, and the stage.
+// Whether a stage was opened, and the stage. No Option: `opened_by` says what stage there is where Start is refused, too.
 #[derive(Clone, Copy)]
 pub struct Opened {
     pub stage: Stage,
