@@ -7,7 +7,8 @@ use Rattle.window.specs.Promise.{number_of}
 use Rattle.player.specs.declared.Player.{Player}
 use Rattle.player.specs.declared.Played.{Played}
 use Rattle.player.specs.View.{player_of}
-use Rattle.planner.specs.Plan.{Figures, figures, planned, plan_rule}
+use Rattle.planner.specs.declared.Needs.{Needs}
+use Rattle.planner.specs.Plan.{figures, planned, plan_rule}
 use Rattle.delivery.specs.Sorts.{begins, is_main, is_take_at}
 use Rattle.calls.specs.Host.{Sent, Host, end_at, Call, call_sort, report_of, done_in, after, MadeAll, host_after, opened}
 use Rattle.calls.specs.Statement.{AllJoined, NoneCan, is_own_five, FirstStart}
@@ -46,7 +47,7 @@ limit_in h = (player_of h.player).limit
 
 -- the planner's figures of window w: from the last index that its record had in the host `left`, with the journal and the batch limit as
 -- they now are
-abbrev pub figures_for : ℕ → (left now : Host) → Figures
+abbrev pub figures_for : ℕ → (left now : Host) → Needs
 figures_for w left now = figures (entries_of now.journal) w (last_at w left) (limit_in now)
 
 -- the results, for W windows, the set of those silent at the first Start, the host after it, and a list of calls from there

@@ -5,7 +5,8 @@ use Rattle.journal.specs.declared.Entry.{Entry}
 use Rattle.journal.specs.Own.{is_own}
 use Rattle.rules.specs.declared.Settings.{Settings}
 use Rattle.rules.specs.View.{PlayerView}
-use Rattle.planner.specs.Plan.{Figures, figures, planned, plan_rule}
+use Rattle.planner.specs.declared.Needs.{Needs}
+use Rattle.planner.specs.Plan.{figures, planned, plan_rule}
 use Rattle.delivery.specs.World.{Sent, World, side_at, numbers_in, Step, Stepped, step, run}
 use Rattle.delivery.specs.Sorts.{is_done, sort_of, begins, is_main, is_take_at}
 use Rattle.delivery.specs.Statement.{AllJoined, NoneCan, first_start, first_world}
@@ -43,7 +44,7 @@ last_at w wd = (side_at w wd).record'.last.0
 
 -- the planner's figures of window w: from the last index that its record had in the world `left`, with the journal and the batch limit as
 -- they now are
-abbrev pub figures_for : ℕ → (left now : World) → Figures
+abbrev pub figures_for : ℕ → (left now : World) → Needs
 figures_for w left now = figures now.journal w (last_at w left) now.limit
 
 -- the results, for W windows, the set of those silent at the first Start, the world after it, and a list of steps from there
