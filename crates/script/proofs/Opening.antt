@@ -6,7 +6,6 @@ use Rattle.std.proofs.Common.{sym, ap₂, ◌∙◌, arith}
 use mathlib.Core.List.{List, [], ◌∷◌, map}
 use Rattle.std.proofs.Math.Bool.{true, false, cond}
 use borrow.Author.Tests.{eqb-true, eqb-false, lt-leb}
-use Rattle.std.proofs.lemmas.List.{length-replicate}
 use Rattle.std.proofs.Math.Dec.{eqb, leb}
 use Rattle.lists.specs.All.{all}
 use Rattle.lists.specs.Cases.{and_left}
@@ -91,10 +90,6 @@ replicate-take : (n m x : ℕ) → n ≤ m → take n (replicate m x) ≡ replic
 replicate-take zero m x h = refl
 replicate-take (suc n) zero x h = absurd (omega arith)
 replicate-take (suc n) (suc m) x h = ap (λ l. x ∷ l) (replicate-take n m x (omega arith))
-
--- the reports of so many windows, as many as there are
-pub reports-count : (n : ℕ) → n ≤ 16 → n ≡ length (take {A = ℕ} n (replicate 16 0))
-reports-count n h = sym (ap length (replicate-take n 16 0 h) ∙ length-replicate n 0)
 
 module _ (ns : List ℕ) (count : ℕ) where
   abbrev zeros : List ℕ

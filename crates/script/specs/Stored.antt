@@ -8,7 +8,9 @@ use Rattle.record.specs.Record.{new_record, take_numbers}
 use Rattle.rules.specs.View.{WindowView}
 use Rattle.rules.specs.Rules.{Outcome, window_at, main_rule, catch_rule, send_rule, written_rule, ack_rule, drop_rule, join_rule, send_output}
 use Rattle.player.specs.declared.Player.{Player}
+use Rattle.player.specs.declared.Played.{Played}
 use Rattle.player.specs.View.{player_of}
+use Rattle.player.specs.Promise.{Meets}
 use Rattle.script_line.specs.declared.Step.{Step}
 use Rattle.script_line.specs.declared.Step.TheVariants.{Main, At}
 use Rattle.script_line.specs.declared.Verb.TheVariants.{Catch, Send, Written, Ack, Drop, Join, Take}
@@ -108,6 +110,11 @@ output_at ns p (At Ack w) = replicate 10 0
 output_at ns p (At Drop w) = replicate 10 0
 output_at ns p (At Join w) = replicate 10 0
 output_at ns p (At Take w) = replicate 10 0
+
+-- what the call gave, and what is then in the output
+pub record Made (ns : List ℕ) (p : Player) (x : Slot) (st : Step) (r : Played) (out : List ℕ) : Type 0 where
+  pub meets : Meets p r (outcome_at ns p x st)
+  pub wrote : out ≡ output_at ns p st
 
 -- ------------------------------------------------------------------------
 -- What a step leaves that is answered 0

@@ -36,6 +36,10 @@ impl Slot {
         if !self.lacks(step) {
             return None;
         }
-        Some(if self.there { Reply::Empty } else { Reply::Answered(2) })
+        Some(if self.there {
+            Reply::Empty
+        } else {
+            Reply::Answered(2)
+        })
     }
 }

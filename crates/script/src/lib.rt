@@ -12,7 +12,8 @@ use line::Line;
 use player::Player;
 use record::Record;
 
-// The player, and the record and the line of each window. Those from the number of windows up are no part of it.
+// The player, and the record and the line of each window. Those from the number of windows up are no part of it. Records and lines stay
+// two arrays, since `world_of` and `SameAbove` read them as two lists.
 #[derive(Clone, Copy)]
 pub struct Stage {
     pub player: Player,

@@ -33,7 +33,13 @@ impl Stage {
             silent: 0,
         };
         let reports = [0; 16];
-        let played = operations::start_on(player, journal, count, settings, &reports[..count as usize]);
+        let played = operations::start_on(
+            player,
+            journal,
+            count,
+            settings,
+            &reports[..count as usize],
+        );
         Opened {
             ok: played.answer.number() == 0,
             stage: Stage {

@@ -1,10 +1,10 @@
 // One step of a script: a call of the player, or of a window's record, and what it leaves for that window.
-ghost use Rattle.std.specs.Prelude.{◌≡◌};
-ghost use Rattle.player.specs.Promise.{Meets};
+ghost use Rattle.std.specs.Prelude.{◌<◌, ◌≡◌};
 ghost use Rattle.script.specs.Stage.{window_of};
-ghost use Rattle.script.specs.Stored.{index_after, outcome_at, output_at};
+ghost use Rattle.script.specs.Stored.{index_after, Made, stored_by};
 ghost use Rattle.script.specs.Promise.{Plays};
 
+use crate::settle::Settled;
 use crate::slot::Slot;
 use crate::{Reply, Stage, Stepped};
 use journal::Index;
@@ -12,7 +12,7 @@ use player::{Played, Player};
 use script_line::{Step, Verb};
 use window::Answer;
 
-// The window that a step names, and 0 where it names none.
+// The window that a step names. Main names none and is played at place 0; no Option, since `window_of` of specs/Stage.antt is 0 there.
 fn window_of(step: Step) -> u32
     ensures { result ≡ window_of step }
 {
@@ -31,8 +31,7 @@ fn after(index: Index) -> Index
 
 // What the player makes of the call that a step is, and what is then in an output of ten zeros. Take asks nothing.
 fn called(player: Player, journal: &[u32], slot: Slot, step: Step) -> (Played, [u32; 10])
-    ensures meets { Meets player result.0 (outcome_at journal.now player slot step) }
-    ensures wrote { result.1 ≡ output_at journal.now player step }
+    ensures { Made journal.now player slot step result.0 result.1 }
 {
     let mut out = [0; 10];
     let played = match step {
@@ -40,7 +39,13 @@ fn called(player: Player, journal: &[u32], slot: Slot, step: Step) -> (Played, [
         Step::At(Verb::Catch, w) => operations::catch_on(player, journal, w, slot.term, slot.due),
         Step::At(Verb::Send, w) => operations::send_on(player, journal, w, &mut out),
         Step::At(Verb::Written, w) => operations::written_on(player, journal, w, slot.term),
-        Step::At(Verb::Ack, w) => operations::ack_on(player, journal, w, slot.ack.term, slot.ack.index),
+        Step::At(Verb::Ack, w) => operations::ack_on(
+            player,
+            journal,
+            w,
+            slot.ack.term,
+            slot.ack.index,
+        ),
         Step::At(Verb::Drop, w) => operations::drop_on(player, journal, w),
         Step::At(Verb::Join, w) => operations::join_on(player, journal, w, slot.record.last),
         Step::At(Verb::Take, _) => Played {
@@ -53,7 +58,7 @@ fn called(player: Player, journal: &[u32], slot: Slot, step: Step) -> (Played, [
 
 impl Stage {
     // One step of a script: Answered(1), with the stage as it was, where the journal is out of shape or the stage does not fit.
-    pub fn step(mut self, journal: &[u32], step: Step) -> Stepped
+    pub fn step(self, journal: &[u32], step: Step) -> Stepped
         ensures { Plays journal.now self step result }
     {
         let player = self.player;
@@ -68,8 +73,15 @@ impl Stage {
             let reply = Reply::Answered(number);
             return Stepped { reply, stage: self };
         }
-        let settled = slot.settled(step, out);
-        self.player = played.player;
+        self.stored(at, played.player, slot.settled(step, out))
+    }
+
+    // The stage with another player, and with what a step leaves for the window at a place.
+    fn stored(mut self, at: usize, player: Player, settled: Settled) -> Stepped
+        requires { at < 16 }
+        ensures { result ≡ stored_by self at player settled }
+    {
+        self.player = player;
         self.records[at] = settled.record;
         self.lines[at] = settled.line;
         Stepped {

@@ -25,7 +25,7 @@ pub struct Slot {
 
 // The index due in a condition: the next one of Fetching, and 0 in any other.
 fn due_in(condition: Condition) -> Index
-    ensures { result.0 ≡ due_in (condition_of condition) }
+    ensures { result ≡ record { 0 = due_in (condition_of condition) } }
 {
     match condition {
         Condition::Fetching { next, end: _ } => next,
