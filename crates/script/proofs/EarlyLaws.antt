@@ -1,14 +1,12 @@
 -- A step that is answered before the player is asked: the stage is as it was.
-use Rattle.std.specs.Prelude.{ℕ, ◌≤◌, ◌≡◌, refl, List, Bool, true, false, cond, ◌&&◌, length, leb, ltb}
-use Rattle.std.proofs.Common.{sym, ap, ◌∙◌, true≢false, arith, eqb-true, leb-true}
+use Rattle.std.specs.Prelude.{ℕ, ◌≤◌, ◌≡◌, refl, List, Bool, true, false, cond, ◌&&◌, length, leb, ltb, Option, Some, None}
+use Rattle.std.proofs.Common.{sym, ap, ◌∙◌, true≢false, eqb-true, leb-true}
 use Rattle.std.proofs.lemmas.Bool.{false≢true}
 use Rattle.journal.specs.Entry.{in_shape, entries_of}
 use Rattle.script_line.specs.declared.Step.{Step}
 use Rattle.script_line.specs.declared.Step.TheVariants.{Main, At}
 use Rattle.script_line.specs.declared.Verb.TheVariants.{Catch, Send, Written, Ack, Drop, Join, Take}
 use Rattle.script.specs.declared.slot.Slot.{Slot}
-use Rattle.script.specs.declared.early.Early.{Early}
-use Rattle.script.specs.declared.early.Early.TheVariants as early
 use Rattle.script.specs.declared.Stage.{Stage}
 use Rattle.script.specs.declared.Reply.{Reply}
 use Rattle.script.specs.declared.Reply.TheVariants.{Answered, Empty}
@@ -44,7 +42,18 @@ nothing-steps ns s h (At Drop w) e = absurd (false≢true e)
 nothing-steps ns s h (At Join w) e = absurd (false≢true e)
 nothing-steps ns s h (At Take w) e = take-nothing (entries_of ns) s h w (eqb-true _ _ e)
 
-module _ (ns : List ℕ) (s : Stage) (st : Step) (x : Slot) (here : s.player.count ≤ 16 → x ≡ slot_in (window_of st) s) where
+-- a step that goes on: the slot is what the stage has for its window, and it can be played and lacks nothing
+pub record GoesOn (ns : List ℕ) (s : Stage) (st : Step) (x : Slot) : Type 0 where
+  pub here : x ≡ slot_in (window_of st) s
+  pub held : Staged s
+  pub can : playable ns s st ≡ true
+  pub has : lacks x st ≡ false
+
+module _ (ns : List ℕ) (s : Stage) (st : Step) (x : Slot) (w : ℕ) (at : w ≡ window_of st) (slot : s.player.count ≤ 16 → x ≡ slot_in w s)
+    (records : length s.records ≡ 16) (lines : length s.lines ≡ 16) where
+  here : s.player.count ≤ 16 → x ≡ slot_in (window_of st) s
+  here few = rw (← at) (slot few)
+
   abbrev test : Bool
   test = in_shape ns && (leb s.player.count 16 && has_room x)
 
@@ -57,26 +66,27 @@ module _ (ns : List ℕ) (s : Stage) (st : Step) (x : Slot) (here : s.player.cou
       by true e = ap (λ y. in_shape ns && has_room y) (here (leb-true _ _ e))
       by false e = refl
 
-  -- a step that goes on can be played, and lacks nothing
-  pub record GoesOn : Type 0 where
-    pub can : playable ns s st ≡ true
-    pub has : lacks x st ≡ false
+  -- a stage that can be played is one that code holds, and its slot is the step's
+  goes-on : lacks x st ≡ false → playable ns s st ≡ true → GoesOn ns s st x
+  goes-on has can =
+      let few = (playable-facts ns s st can).room.few in
+      record { here = here few; held = record { few = few; records = records; lines = lines }; can = can; has = has }
 
-  pub early-none : {e : Early} → e ≡ early_at ns s.player.count x st → e ≡ early.None → GoesOn
+  pub early-none : {e : Option Reply} → e ≡ early_at ns s.player.count x st → e ≡ None → GoesOn ns s st x
   early-none is none = by test refl (lacks x st) refl (sym is ∙ none)
     where
       by : (a : Bool) → test ≡ a → (b : Bool) → lacks x st ≡ b →
-          cond a (cond b (early.Answer (cond x.there Empty (Answered 2))) early.None) (early.Answer (Answered 1)) ≡ early.None → GoesOn
-      by true p true q e = let z : ◌≡◌ {A = ℕ} 0 1 = cc in absurd (omega arith)
-      by true p false q e = record { can = sym test-playable ∙ p; has = q }
-      by false p b q e = let z : ◌≡◌ {A = ℕ} 0 1 = cc in absurd (omega arith)
+          cond a (cond b (Some (cond x.there Empty (Answered 2))) None) (Some (Answered 1)) ≡ None → GoesOn ns s st x
+      by true p true q e = cc
+      by true p false q e = goes-on q (sym test-playable ∙ p)
+      by false p b q e = cc
 
-  pub early-plays : (y : Reply) → length s.records ≡ 16 → length s.lines ≡ 16 → {e : Early} →
-      e ≡ early_at ns s.player.count x st → e ≡ early.Answer y → Plays ns s st (record { reply = y; stage = s })
-  early-plays y records lines is answer = by test refl (lacks x st) refl (sym is ∙ answer)
+  pub early-plays : {y : Reply} {e : Option Reply} → e ≡ early_at ns s.player.count x st → e ≡ Some y →
+      Plays ns s st (record { reply = y; stage = s })
+  early-plays {y} is answer = by test refl (lacks x st) refl (sym is ∙ answer)
     where
       by : (a : Bool) → test ≡ a → (b : Bool) → lacks x st ≡ b →
-          cond a (cond b (early.Answer (cond x.there Empty (Answered 2))) early.None) (early.Answer (Answered 1)) ≡ early.Answer y →
+          cond a (cond b (Some (cond x.there Empty (Answered 2))) None) (Some (Answered 1)) ≡ Some y →
           Plays ns s st (record { reply = y; stage = s })
       by true p true q e =
           let can = sym test-playable ∙ p in
@@ -86,6 +96,6 @@ module _ (ns : List ℕ) (s : Stage) (st : Step) (x : Slot) (here : s.player.cou
           (λ h. rw (is, here few)
           (nothing-steps ns s (record { few = few; records = records; lines = lines }) st (ap (λ x. lacks x st) (sym (here few)) ∙ q)))
           (λ h. absurd (true≢false (sym can ∙ h)))
-      by true p false q e = let z : ◌≡◌ {A = ℕ} 0 1 = cc in absurd (omega arith)
+      by true p false q e = cc
       by false p b q e =
           plays-still ns s st y records lines (λ h. absurd (true≢false (sym h ∙ sym test-playable ∙ p))) (λ h. cc)

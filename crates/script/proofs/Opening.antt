@@ -6,7 +6,7 @@ use Rattle.std.proofs.Common.{sym, ap₂, ◌∙◌, arith}
 use mathlib.Core.List.{List, [], ◌∷◌, map}
 use Rattle.std.proofs.Math.Bool.{true, false, cond}
 use borrow.Author.Tests.{eqb-true, eqb-false, lt-leb}
-use Rattle.std.proofs.lemmas.List.{length-replicate}
+use Rattle.std.proofs.lemmas.List.{take-replicate}
 use Rattle.std.proofs.Math.Dec.{eqb, leb}
 use Rattle.lists.specs.All.{all}
 use Rattle.lists.specs.Cases.{and_left}
@@ -87,15 +87,6 @@ module _ (ns : List ℕ) (count : ℕ) (settings : Settings) (reports : List ℕ
 -- ------------------------------------------------------------------------
 -- opened_by
 
-replicate-take : (n m x : ℕ) → n ≤ m → take n (replicate m x) ≡ replicate n x
-replicate-take zero m x h = refl
-replicate-take (suc n) zero x h = absurd (omega arith)
-replicate-take (suc n) (suc m) x h = ap (λ l. x ∷ l) (replicate-take n m x (omega arith))
-
--- the reports of so many windows, as many as there are
-pub reports-count : (n : ℕ) → n ≤ 16 → n ≡ length (take {A = ℕ} n (replicate 16 0))
-reports-count n h = sym (ap length (replicate-take n 16 0 h) ∙ length-replicate n 0)
-
 module _ (ns : List ℕ) (count : ℕ) where
   abbrev zeros : List ℕ
   zeros = replicate count 0
@@ -119,7 +110,7 @@ module _ (ns : List ℕ) (count : ℕ) where
       (ap (λ q. record { ok = eqb (number_of r.answer) 0; stage = around_player q }) (by (eqb (number_of r.answer) 0) refl))
     where
       told : reports ≡ zeros
-      told = e ∙ replicate-take count 16 0 h
+      told = e ∙ take-replicate count 16 0 h
 
       answer : number_of r.answer ≡ opening_answer ns count
       answer = k.answer ∙ ap₂ (λ x q. (start_rule ns count run_settings x (player_of q)).answer) told b

@@ -10,7 +10,6 @@ use Rattle.rules.specs.View.{PlayerView}
 use Rattle.rules.specs.Rules.{catch_rule, written_rule, drop_rule}
 use Rattle.rules.proofs.Offers.{shaped, main_rule-done, main_rule-count, catch_rule-lawful, send_rule-done, written_rule-lawful}
 use Rattle.rules.proofs.Offers.{ack_rule-done, drop_rule-lawful, join_rule-done}
-use Rattle.player.specs.declared.Player.{Player}
 use Rattle.player.specs.declared.Played.{Played}
 use Rattle.player.specs.View.{player_of}
 use Rattle.player.specs.Promise.{Meets}
@@ -18,56 +17,22 @@ use Rattle.window.specs.Promise.{number_of}
 use Rattle.delivery.specs.World.{World, rejoined}
 use Rattle.delivery.proofs.Offers.{called-then}
 use Rattle.script_line.specs.declared.Step.{Step}
-use Rattle.script_line.specs.declared.Verb.{Verb}
 use Rattle.script_line.specs.declared.Step.TheVariants.{Main, At}
 use Rattle.script_line.specs.declared.Verb.TheVariants.{Catch, Send, Written, Ack, Drop, Join, Take}
 use Rattle.script.specs.declared.slot.Slot.{Slot}
 use Rattle.script.specs.declared.settle.Settled.{Settled}
 use Rattle.script.specs.declared.Stage.{Stage}
 use Rattle.script.specs.declared.Reply.TheVariants.{Answered}
-use Rattle.script.specs.declared.Stepped.{Stepped}
 use Rattle.script.specs.Stage.{world_of, window_of, line_in}
-use Rattle.script.specs.Promise.{playable, is_refusal, Steps, Plays}
-use Rattle.script.specs.Stored.{slot_in, lacks, outcome_at, output_at, Settles, stored_by}
+use Rattle.script.specs.Promise.{is_refusal, Steps, Plays}
+use Rattle.script.specs.Stored.{slot_in, lacks, outcome_at, Made, Settles, stored_by}
 use Rattle.script.proofs.Worlds.{player_of-count, changed, Staged}
 use Rattle.script.proofs.Calls.{playable-facts, operate-count, refused-steps, called-steps, main-calls, catch-calls, written-calls}
 use Rattle.script.proofs.Calls.{drop-calls}
 use Rattle.script.proofs.Settled.{line_in-within, join-calls, join-steps, without_ack, ack-calls, ack-steps}
 use Rattle.script.proofs.Takes.{take_steps}
 use Rattle.script.proofs.Sends.{with_batch, send-calls, send-steps}
-use Rattle.script.proofs.EarlyLaws.{plays-still}
-
--- ------------------------------------------------------------------------
--- Made
-
--- what the call of a step gave, what is in the output, and the step as it still is
-pub record Made (ns : List ℕ) (p : Player) (x : Slot) (st still : Step) (r : Played) (out : List ℕ) : Type 0 where
-  pub same : still ≡ st
-  pub meets : Meets p r (outcome_at ns p x st)
-  pub wrote : out ≡ output_at ns p st
-
--- in the arm of Main, and in that of a verb
-pub made-main : (ns : List ℕ) (p : Player) (x : Slot) {st still : Step} {r r' : Played} {out : List ℕ} → st ≡ Main → still ≡ st → r ≡ r' →
-    out ≡ output_at ns p Main → Meets p r' (outcome_at ns p x Main) → Made ns p x st still r out
-made-main ns p x from same is wrote meets = record { same = same; meets = rw (from, is) meets; wrote = rw from wrote }
-
-pub made_at : (ns : List ℕ) (p : Player) (x : Slot) {st still : Step} {verb v : Verb} {w : ℕ} {r r' : Played} {out out' : List ℕ} →
-    st ≡ At verb w → verb ≡ v → still ≡ At verb w → r ≡ r' → out ≡ out' → Meets p r' (outcome_at ns p x (At v w)) →
-    out' ≡ output_at ns p (At v w) → Made ns p x st still r out
-made_at ns p x from told same is output meets wrote = record {
-  same = same ∙ sym from;
-  meets = rw (from, told, is) meets;
-  wrote = rw (from, told, output) wrote;
-}
-
--- Take asks nothing
-pub unasked : (p : Player) (r : Played) → r.player ≡ p → number_of r.answer ≡ 0 → Meets p r (record { answer = 0; next = player_of p })
-unasked p r same zero = record {
-  answer = zero;
-  next = ap player_of same;
-  unchanged = λ n. absurd (n refl);
-  above = rw same;
-}
+use Rattle.script.proofs.EarlyLaws.{plays-still, GoesOn}
 
 -- ------------------------------------------------------------------------
 -- Settles
@@ -132,13 +97,13 @@ module _ (ns : List ℕ) (s : Stage) (h : Staged s) (e : in_shape ns ≡ true) w
   step-refuses (At Join w) r has k n = refused-steps ns s h e _ r _ (rejoined w) (join-calls ns s h e w) k n
   step-refuses (At Take w) r has k n = absurd (n k.answer)
 
-  step-does : (st still : Step) (r : Played) (out : List ℕ) (y : Settled) → lacks (slot st) st ≡ false →
-      Made ns s.player (slot st) st still r out → number_of r.answer ≡ 0 → Settles (slot st) st out y →
+  step-does : (st : Step) (r : Played) (out : List ℕ) (y : Settled) → lacks (slot st) st ≡ false →
+      Made ns s.player (slot st) st r out → number_of r.answer ≡ 0 → Settles (slot st) st out y →
       Steps (entries_of ns) s st (stored_by s (window_of st) r.player y)
   unfolding catch_rule written_rule drop_rule
-  step-does st still r out y has k z f = by st has k f (step-within st has (sym k.meets.answer ∙ z))
+  step-does st r out y has k z f = by st has k f (step-within st has (sym k.meets.answer ∙ z))
     where
-      by : (st : Step) → lacks (slot st) st ≡ false → Made ns s.player (slot st) st still r out → Settles (slot st) st out y →
+      by : (st : Step) → lacks (slot st) st ≡ false → Made ns s.player (slot st) st r out → Settles (slot st) st out y →
           window_of st < s.player.count → Steps (entries_of ns) s st (stored_by s (window_of st) r.player y)
       by Main has k f l = rw f (called-steps ns s h e Main _ r _ (main-calls ns s h e) k.meets (main_rule-count ns _ player) z l)
       by (At Catch w) has k f l = rw f (called-steps ns s h e _ w r _ (catch-calls ns s h e w) k.meets (operate-count ns w _ player) z l)
@@ -154,44 +119,40 @@ module _ (ns : List ℕ) (s : Stage) (h : Staged s) (e : in_shape ns ≡ true) w
 -- ------------------------------------------------------------------------
 -- Plays
 
--- of a slot that is known to be the step's, where the step goes on
-module _ (ns : List ℕ) (s : Stage) (h : Staged s) (st : Step) (x : Slot) (here : x ≡ slot_in (window_of st) s)
-    (can : playable ns s st ≡ true) (has : lacks x st ≡ false) (still : Step) (r : Played) (out : List ℕ)
-    (k : Made ns s.player x st still r out) where
+module _ (ns : List ℕ) (s : Stage) (st : Step) (x : Slot) (on : GoesOn ns s st x) (r : Played) (out : List ℕ)
+    (k : Made ns s.player x st r out) where
   journal : in_shape ns ≡ true
-  journal = (playable-facts ns s st can).journal
+  journal = (playable-facts ns s st on.can).journal
 
   lacks-here : lacks (slot_in (window_of st) s) st ≡ false
-  lacks-here = ap (λ x. lacks x st) (sym here) ∙ has
+  lacks-here = ap (λ x. lacks x st) (sym on.here) ∙ on.has
 
-  made-here : Made ns s.player (slot_in (window_of st) s) st still r out
-  made-here = rw here at k
+  made-here : Made ns s.player (slot_in (window_of st) s) st r out
+  made-here = rw on.here at k
 
   pub plays-within : number_of r.answer ≡ 0 → window_of st < s.player.count
-  plays-within z = step-within ns s h journal st lacks-here (sym made-here.meets.answer ∙ z)
+  plays-within z = step-within ns s on.held journal st lacks-here (sym made-here.meets.answer ∙ z)
 
-  pub plays-refused : (n : ℕ) (after : Stepped) → after ≡ record { reply = Answered n; stage = s } → n ≡ number_of r.answer →
-      (n ≡ 0 → ⊥) → Plays ns s st after
-  plays-refused n after gives is some =
-      rw gives
-      (plays-still ns s st _ h.records h.lines
-      (λ c. rw is (step-refuses ns s h journal st r lacks-here made-here.meets (λ z. some (is ∙ z))))
-      (λ c. absurd (true≢false (sym can ∙ c))))
+  pub plays-refused : {n : ℕ} → n ≡ number_of r.answer → (n ≡ 0 → ⊥) → Plays ns s st (record { reply = Answered n; stage = s })
+  plays-refused is some =
+      plays-still ns s st _ on.held.records on.held.lines
+      (λ c. rw is (step-refuses ns s on.held journal st r lacks-here made-here.meets (λ z. some (is ∙ z))))
+      (λ c. absurd (true≢false (sym on.can ∙ c)))
 
-  pub plays-done : (w : ℕ) (y : Settled) (after : Stepped) → after ≡ stored_by s w r.player y → w ≡ window_of st →
-      number_of r.answer ≡ 0 → Settles x still out y → Plays ns s st after
-  plays-done w y after gives is z f =
+  pub plays-done : {w : ℕ} (y : Settled) → w ≡ window_of st → number_of r.answer ≡ 0 → Settles x st out y →
+      Plays ns s st (stored_by s w r.player y)
+  plays-done y is z f =
       let l = plays-within z in
-      rw (gives, is)
+      rw is
       (record {
-        played = λ c. step-does ns s h journal st still r out y lacks-here made-here z (rw (k.same, here) at f);
-        stuck = λ c. absurd (true≢false (sym can ∙ c));
-        refused = λ c. absurd (true≢false (sym c ∙ settles-reply x still out y f));
+        played = λ c. step-does ns s on.held journal st r out y lacks-here made-here z (rw on.here at f);
+        stuck = λ c. absurd (true≢false (sym on.can ∙ c));
+        refused = λ c. absurd (true≢false (sym c ∙ settles-reply x st out y f));
         above = record {
           windows = k.meets.above;
           records = drop-set-lt s.player.count s.records (window_of st) y.record l;
           lines = drop-set-lt s.player.count s.lines (window_of st) y.line l;
         };
-        records = length-set s.records (window_of st) y.record ∙ h.records;
-        lines = length-set s.lines (window_of st) y.line ∙ h.lines;
+        records = length-set s.records (window_of st) y.record ∙ on.held.records;
+        lines = length-set s.lines (window_of st) y.line ∙ on.held.lines;
       })

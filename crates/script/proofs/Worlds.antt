@@ -166,7 +166,7 @@ module _ (j : List Entry) (s : Stage) (h : Staged s) where
 pub slot_in-absent : (s : Stage) (w : ℕ) → s.player.count ≤ w → absent ≡ slot_in w s
 slot_in-absent s w h = rw (le-ltb w s.player.count h, window_at-none s.player w h)
 
-slot_in-present : (s : Stage) → Staged s → length s.player.windows ≡ 16 → (w : ℕ) (x : Window) (r : Record) (l : Line) →
+pub slot_in-present : (s : Stage) → Staged s → length s.player.windows ≡ 16 → (w : ℕ) (x : Window) (r : Record) (l : Line) →
     w < s.player.count →
     present (view_of (get_or s.player.windows w x)) (get_or s.records w r) (get_or s.lines w l) ≡ slot_in w s
 slot_in-present s h windows w x r l here =
@@ -176,17 +176,6 @@ slot_in-present s h windows w x r l here =
       get_or-any s.records w r new_record (omega arith),
       get_or-any s.lines w l fresh_line (omega arith),
     )
-
--- either, by whether the window is one of the player's
-pub slot_in-of : (s : Stage) → Staged s → length s.player.windows ≡ 16 → (w : ℕ) (x : Window) (r : Record) (l : Line) →
-    cond (ltb w s.player.count) (present (view_of (get_or s.player.windows w x)) (get_or s.records w r) (get_or s.lines w l)) absent
-    ≡ slot_in w s
-slot_in-of s h windows w x r l = by (ltb w s.player.count) refl
-  where
-    by : (b : Bool) → ltb w s.player.count ≡ b →
-        cond b (present (view_of (get_or s.player.windows w x)) (get_or s.records w r) (get_or s.lines w l)) absent ≡ slot_in w s
-    by true e = slot_in-present s h windows w x r l (ltb-true _ _ e)
-    by false e = slot_in-absent s w (ltb-false _ _ e)
 
 -- what is there stored again
 pub stored_at-same : (s : Stage) (w : ℕ) (p : Player) → w < s.player.count →

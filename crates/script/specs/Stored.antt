@@ -1,5 +1,5 @@
 -- What the private functions promise: what a stage has for one window, what a step is answered early, asks of the player, and leaves there.
-use Rattle.std.specs.Prelude.{ℕ, ◌+◌, ◌≡◌, List, Bool, true, false, cond, ◌&&◌, get_or, set, replicate, ltb, leb, eqb}
+use Rattle.std.specs.Prelude.{ℕ, ◌+◌, ◌≡◌, List, Bool, true, false, cond, ◌&&◌, get_or, set, replicate, ltb, leb, eqb, Option, Some, None}
 use Rattle.journal.specs.declared.Index.{Index}
 use Rattle.journal.specs.Entry.{in_shape, five_of}
 use Rattle.record.specs.declared.Record.{Record}
@@ -8,16 +8,17 @@ use Rattle.record.specs.Record.{new_record, take_numbers}
 use Rattle.rules.specs.View.{WindowView}
 use Rattle.rules.specs.Rules.{Outcome, window_at, main_rule, catch_rule, send_rule, written_rule, ack_rule, drop_rule, join_rule, send_output}
 use Rattle.player.specs.declared.Player.{Player}
+use Rattle.player.specs.declared.Played.{Played}
 use Rattle.player.specs.View.{player_of}
+use Rattle.player.specs.Promise.{Meets}
 use Rattle.script_line.specs.declared.Step.{Step}
 use Rattle.script_line.specs.declared.Step.TheVariants.{Main, At}
 use Rattle.script_line.specs.declared.Verb.TheVariants.{Catch, Send, Written, Ack, Drop, Join, Take}
 use Rattle.script.specs.declared.line.Line.{Line}
 use Rattle.script.specs.declared.slot.Slot.{Slot}
-use Rattle.script.specs.declared.early.Early.{Early}
-use Rattle.script.specs.declared.early.Early.TheVariants as early
 use Rattle.script.specs.declared.settle.Settled.{Settled}
 use Rattle.script.specs.declared.Stage.{Stage}
+use Rattle.script.specs.declared.Reply.{Reply}
 use Rattle.script.specs.declared.Reply.TheVariants.{Answered, Empty}
 use Rattle.script.specs.declared.Stepped.{Stepped}
 use Rattle.script.specs.Line.{placed_of, no_sent, no_ack, fresh_line, batch_shown, Grown, TakenOff, AckedOff}
@@ -75,11 +76,11 @@ lacks x (At Drop w) = false
 lacks x (At Join w) = false
 lacks x (At Take w) = eqb x.line.entries.len 0
 
-abbrev pub early_at : List ℕ → ℕ → Slot → Step → Early
+abbrev pub early_at : List ℕ → ℕ → Slot → Step → Option Reply
 early_at ns count x st =
     cond (in_shape ns && (leb count 16 && has_room x))
-    (cond (lacks x st) (early.Answer (cond x.there Empty (Answered 2))) early.None)
-    (early.Answer (Answered 1))
+    (cond (lacks x st) (Some (cond x.there Empty (Answered 2))) None)
+    (Some (Answered 1))
 
 -- ------------------------------------------------------------------------
 -- What a step asks of the player
@@ -109,6 +110,11 @@ output_at ns p (At Ack w) = replicate 10 0
 output_at ns p (At Drop w) = replicate 10 0
 output_at ns p (At Join w) = replicate 10 0
 output_at ns p (At Take w) = replicate 10 0
+
+-- what the call gave, and what is then in the output
+pub record Made (ns : List ℕ) (p : Player) (x : Slot) (st : Step) (r : Played) (out : List ℕ) : Type 0 where
+  pub meets : Meets p r (outcome_at ns p x st)
+  pub wrote : out ≡ output_at ns p st
 
 -- ------------------------------------------------------------------------
 -- What a step leaves that is answered 0

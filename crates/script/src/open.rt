@@ -15,38 +15,36 @@ impl Stage {
         ensures { result ≡ opened_by journal.now count }
     {
         let player = Player::blank();
-        let record = Record::new();
-        let records = [record; 16];
-        let line = Line::new();
-        let lines = [line; 16];
+        let blank = Stage {
+            player,
+            records: [Record::new(); 16],
+            lines: [Line::new(); 16],
+        };
         if 16 < count {
             return Opened {
                 ok: false,
-                stage: Stage {
-                    player,
-                    records,
-                    lines,
-                },
+                stage: blank,
             };
         }
-        let reports = [0; 16];
-        let end = count as usize;
         let settings = Settings {
             limit: 2,
             spacing: 65535,
             first: Term(1),
             silent: 0,
         };
-        let played = operations::start_on(player, journal, count, settings, &reports[..end]);
-        let answer = played.answer;
-        let next = played.player;
-        let number = answer.number();
+        let reports = [0; 16];
+        let played = operations::start_on(
+            player,
+            journal,
+            count,
+            settings,
+            &reports[..count as usize],
+        );
         Opened {
-            ok: number == 0,
+            ok: played.answer.number() == 0,
             stage: Stage {
-                player: next,
-                records,
-                lines,
+                player: played.player,
+                ..blank
             },
         }
     }

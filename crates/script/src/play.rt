@@ -1,18 +1,18 @@
 // One step of a script: a call of the player, or of a window's record, and what it leaves for that window.
-ghost use Rattle.std.specs.Prelude.{◌≡◌};
+ghost use Rattle.std.specs.Prelude.{◌<◌, ◌≡◌};
 ghost use Rattle.script.specs.Stage.{window_of};
-ghost use Rattle.script.specs.Stored.{index_after};
+ghost use Rattle.script.specs.Stored.{index_after, Made, stored_by};
 ghost use Rattle.script.specs.Promise.{Plays};
 
-use crate::early::Early;
+use crate::settle::Settled;
 use crate::slot::Slot;
 use crate::{Reply, Stage, Stepped};
 use journal::Index;
-use player::Played;
+use player::{Played, Player};
 use script_line::{Step, Verb};
 use window::Answer;
 
-// The window that a step names, and 0 where it names none.
+// The window that a step names. Main names none and is played at place 0; no Option, since `window_of` of specs/Stage.antt is 0 there.
 fn window_of(step: Step) -> u32
     ensures { result ≡ window_of step }
 {
@@ -26,55 +26,67 @@ fn window_of(step: Step) -> u32
 fn after(index: Index) -> Index
     ensures { result ≡ index_after index }
 {
-    if index.0 == 4294967295 {
-        return index;
-    }
-    Index(index.0 + 1)
+    Index(index.0.saturating_add(1))
+}
+
+// What the player makes of the call that a step is, and what is then in an output of ten zeros. Take asks nothing.
+fn called(player: Player, journal: &[u32], slot: Slot, step: Step) -> (Played, [u32; 10])
+    ensures { Made journal.now player slot step result.0 result.1 }
+{
+    let mut out = [0; 10];
+    let played = match step {
+        Step::Main => operations::main_on(player, journal, after(player.current)),
+        Step::At(Verb::Catch, w) => operations::catch_on(player, journal, w, slot.term, slot.due),
+        Step::At(Verb::Send, w) => operations::send_on(player, journal, w, &mut out),
+        Step::At(Verb::Written, w) => operations::written_on(player, journal, w, slot.term),
+        Step::At(Verb::Ack, w) => operations::ack_on(
+            player,
+            journal,
+            w,
+            slot.ack.term,
+            slot.ack.index,
+        ),
+        Step::At(Verb::Drop, w) => operations::drop_on(player, journal, w),
+        Step::At(Verb::Join, w) => operations::join_on(player, journal, w, slot.record.last),
+        Step::At(Verb::Take, _) => Played {
+            answer: Answer::Done,
+            player,
+        },
+    };
+    (played, out)
 }
 
 impl Stage {
     // One step of a script: Answered(1), with the stage as it was, where the journal is out of shape or the stage does not fit.
-    pub fn step(mut self, journal: &[u32], step: Step) -> Stepped
+    pub fn step(self, journal: &[u32], step: Step) -> Stepped
         ensures { Plays journal.now self step result }
     {
         let player = self.player;
         let at = window_of(step) as usize;
-        let there = at < player.count as usize;
-        let mut slot = Slot::none();
-        if at < 16 {
-            slot = Slot::of(there, player.windows[at], self.records[at], self.lines[at]);
-        }
-        if let Early::Answer(reply) = slot.early(journal, player.count, step) {
+        let slot = self.slot(at);
+        if let Some(reply) = slot.early(journal, player.count, step) {
             return Stepped { reply, stage: self };
         }
-        let answer = Answer::Done;
-        let mut out = [0; 10];
-        let played = match step {
-            Step::Main => operations::main_on(player, journal, after(player.current)),
-            Step::At(verb, w) => match verb {
-                Verb::Catch => operations::catch_on(player, journal, w, slot.term, slot.due),
-                Verb::Send => operations::send_on(player, journal, w, &mut out),
-                Verb::Written => operations::written_on(player, journal, w, slot.term),
-                Verb::Ack => operations::ack_on(player, journal, w, slot.ack.term, slot.ack.index),
-                Verb::Drop => operations::drop_on(player, journal, w),
-                Verb::Join => operations::join_on(player, journal, w, slot.record.last),
-                Verb::Take => Played { answer, player },
-            },
-        };
-        let answer = played.answer;
-        let number = answer.number();
+        let (played, out) = called(player, journal, slot, step);
+        let number = played.answer.number();
         if number != 0 {
             let reply = Reply::Answered(number);
             return Stepped { reply, stage: self };
         }
-        let settled = slot.settled(step, out);
-        let next = played.player;
-        let record = settled.record;
-        let line = settled.line;
-        let reply = settled.reply;
-        self.player = next;
-        self.records[at] = record;
-        self.lines[at] = line;
-        Stepped { reply, stage: self }
+        self.stored(at, played.player, slot.settled(step, out))
+    }
+
+    // The stage with another player, and with what a step leaves for the window at a place.
+    fn stored(mut self, at: usize, player: Player, settled: Settled) -> Stepped
+        requires { at < 16 }
+        ensures { result ≡ stored_by self at player settled }
+    {
+        self.player = player;
+        self.records[at] = settled.record;
+        self.lines[at] = settled.line;
+        Stepped {
+            reply: settled.reply,
+            stage: self,
+        }
     }
 }

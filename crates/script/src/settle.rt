@@ -1,14 +1,11 @@
 // What a step leaves for its window, once its call is answered 0.
 ghost use Rattle.std.specs.Prelude.{◌≤◌, ◌≡◌};
-ghost use Rattle.journal.specs.Entry.{five_of};
-ghost use Rattle.record.specs.Record.{outcome_of, take_numbers};
-ghost use Rattle.script.specs.Line.{placed_of};
-ghost use Rattle.script.specs.Stored.{settled_as, Takes, Settles};
+ghost use Rattle.script.specs.Stored.{Takes, Settles};
 
 use crate::Reply;
-use crate::line::{Line, Sent};
+use crate::line::Line;
 use crate::slot::Slot;
-use record::{Record, Taken};
+use record::Record;
 use script_line::{Step, Verb};
 
 // A reply, and the window's record and line as they then are.
@@ -19,43 +16,18 @@ pub struct Settled {
     pub line: Line,
 }
 
-// A record that has taken an entry, lent its five numbers.
-fn taken_by(record: Record, sent: Sent) -> Taken
-    ensures { outcome_of result ≡ take_numbers (five_of (placed_of sent.numbers)) «record» }
-{
-    let numbers = sent.numbers;
-    record::take_by_value(record, &numbers)
-}
-
 impl Slot {
-    // Answered 0, the record as it is, and this line.
-    fn with_line(self, line: Line) -> Settled
-        ensures { result ≡ settled_as self line }
-    {
-        let record = self.record;
-        Settled {
-            reply: Reply::Answered(0),
-            record,
-            line,
-        }
-    }
-
     // Take of the front entry, which goes off the line; the last of a batch puts an ack on the way back.
     fn taken(self) -> Settled
         requires { (self.line.entries.len ≤ 16) × (self.line.acks.len ≤ 8) }
         ensures { Takes self result }
     {
-        let line = self.line;
-        let entries = line.entries;
-        let sent = entries.first();
-        let own = self.record;
-        let taken = taken_by(own, sent);
-        let answer = taken.answer;
-        let record = taken.record;
+        let sent = self.line.entries.first();
+        let taken = record::take_by_value(self.record, &sent.numbers);
         Settled {
-            reply: Reply::Answered(answer.number()),
-            record,
-            line: line.taken(sent),
+            reply: Reply::Answered(record::number(&taken)),
+            record: taken.unwrap_or(self.record),
+            line: self.line.taken(sent),
         }
     }
 
@@ -65,19 +37,17 @@ impl Slot {
         requires { (self.line.entries.len ≤ 16) × (self.line.acks.len ≤ 8) }
         ensures { Settles self step out result }
     {
-        let line = self.line;
-        let term = self.term;
-        let Step::At(verb, _) = step else {
-            return self.with_line(line);
+        let line = match step {
+            Step::At(Verb::Send, _) => self.line.loaded(out, self.term),
+            Step::At(Verb::Ack, _) => self.line.acked(),
+            Step::At(Verb::Join, _) => Line::new(),
+            Step::At(Verb::Take, _) => return self.taken(),
+            _ => self.line,
         };
-        match verb {
-            Verb::Catch => self.with_line(line),
-            Verb::Send => self.with_line(line.loaded(out, term)),
-            Verb::Written => self.with_line(line),
-            Verb::Ack => self.with_line(line.acked()),
-            Verb::Drop => self.with_line(line),
-            Verb::Join => self.with_line(Line::new()),
-            Verb::Take => self.taken(),
+        Settled {
+            reply: Reply::Answered(0),
+            record: self.record,
+            line,
         }
     }
 }

@@ -1,16 +1,18 @@
 // What a stage has for one window.
-ghost use Rattle.std.specs.Prelude.{◌≡◌, cond};
-ghost use Rattle.window.specs.View.{condition_of, view_of};
+ghost use Rattle.std.specs.Prelude.{◌≤◌, ◌≡◌};
+ghost use Rattle.window.specs.View.{condition_of};
 ghost use Rattle.script.specs.Stage.{due_in};
-ghost use Rattle.script.specs.Stored.{absent, present};
+ghost use Rattle.script.specs.Stored.{absent, slot_in};
 
+use crate::Stage;
 use crate::line::{Ack, Line};
 use journal::Index;
 use record::Record;
 use rules::Term;
-use window::{Condition, Window};
+use window::Condition;
 
 // Whether a window is one of the player's, its term and the index due there, its record, its line, and the front ack of the line.
+// No Option: a step at a window that is not there is asked of the player all the same, with these values, which refuses it.
 #[derive(Clone, Copy)]
 pub struct Slot {
     pub there: bool,
@@ -23,19 +25,17 @@ pub struct Slot {
 
 // The index due in a condition: the next one of Fetching, and 0 in any other.
 fn due_in(condition: Condition) -> Index
-    ensures { result.0 ≡ due_in (condition_of condition) }
+    ensures { result ≡ record { 0 = due_in (condition_of condition) } }
 {
     match condition {
-        Condition::Normal => Index(0),
         Condition::Fetching { next, end: _ } => next,
-        Condition::Completed { end: _ } => Index(0),
-        Condition::Suspended => Index(0),
+        _ => Index(0),
     }
 }
 
 impl Slot {
     // For a window that is not there: a new record and an empty line.
-    pub(crate) fn none() -> Slot
+    fn none() -> Slot
         ensures { result ≡ absent }
     {
         Slot {
@@ -50,25 +50,25 @@ impl Slot {
             },
         }
     }
+}
 
-    // For what stands at a window's place, where the window is one of the player's.
-    pub(crate) fn of(there: bool, window: Window, record: Record, line: Line) -> Slot
-        ensures { result ≡ cond there (present (view_of window) «record» line) absent }
+impl Stage {
+    // For a window of the stage.
+    pub(crate) fn slot(&self, at: usize) -> Slot
+        ensures { self.now.player.count ≤ 16 → result ≡ slot_in at self.now }
     {
-        if !there {
+        if self.player.count as usize <= at || 16 <= at {
             return Slot::none();
         }
-        let head = window.head;
-        let condition = head.condition;
-        let term = head.term;
-        let acks = line.acks;
+        let head = self.player.windows[at].head;
+        let line = self.lines[at];
         Slot {
-            there,
-            term,
-            due: due_in(condition),
-            record,
+            there: true,
+            term: head.term,
+            due: due_in(head.condition),
+            record: self.records[at],
             line,
-            ack: acks.first(),
+            ack: line.acks.first(),
         }
     }
 }
