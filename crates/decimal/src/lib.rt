@@ -1,7 +1,7 @@
 // One decimal numeral, read from a place of a text and written to a place of a buffer.
 #![tactic(auto)]
 
-ghost use Rattle.std.specs.Prelude.{◌-◌, ◌≤◌, ◌≡◌, [], length, drop, IfSome, IsNone};
+ghost use Rattle.std.specs.Prelude.{◌+◌, ◌≤◌, ◌≡◌, [], length, drop, IfSome, IsNone};
 ghost use Rattle.decimal.specs.Numeral.{numeral, lead_digits, read_at, write_at, with_numeral};
 ghost use Rattle.decimal.specs.Digit.{DigitAt};
 
@@ -56,28 +56,27 @@ pub fn digits(n: u32) -> usize
 
 // Writes the numeral of `n` at `at` and answers the place after it; where the buffer has no room for all of it, there is no such place,
 // and nothing is written.
+#[tactic(auto, using(crate::proofs::Writing::write_some, crate::proofs::Writing::write_none, crate::proofs::Writing::write_nothing))]
 pub fn write(n: u32, out: &mut [u8], at: usize) -> Option<usize>
     ensures { (result ≡ write_at n (length out.old) at) × (out.new ≡ with_numeral n out.old at) }
 {
-    let count = digits(n);
-    if out.len() < at || out.len() - at < count {
+    let end = at.checked_add(digits(n))?;
+    if out.len() < end {
         return None;
     }
-    fill(n, out, at + count);
-    Some(at + count)
+    fill(n, out, at, end);
+    Some(end)
 }
 
-// Puts the digits of `n` right before `end`, the last one first.
-fn fill(n: u32, out: &mut [u8], end: usize)
-    requires { (length (numeral n) ≤ end) × (end ≤ length out.old) }
-    ensures { out.new ≡ with_numeral n out.old (end - length (numeral n)) }
+// Puts the digits of `n` into the places from `at` to before `end`, the last one first.
+#[tactic(auto, using(crate::proofs::Writing::left_digit, crate::proofs::Writing::left_none))]
+fn fill(n: u32, out: &mut [u8], at: usize, end: usize)
+    requires { (end ≡ at + length (numeral n)) × (end ≤ length out.old) }
+    ensures { out.new ≡ with_numeral n out.old at }
 {
-    let mut i = end - 1;
     let mut rest = n;
-    while 10 <= rest {
+    for i in (at..end).rev() {
         out[i] = b'0' + (rest % 10) as u8;
         rest /= 10;
-        i -= 1;
     }
-    out[i] = b'0' + rest as u8;
 }
