@@ -29,6 +29,7 @@ pub fn read(text: &[u8], at: usize, bound: u32) -> Option<(u32, usize)>
 }
 
 // The digit that stands at a place.
+#[tactic(auto, using(crate::proofs::Reading::past_end, crate::proofs::Reading::other_byte, crate::proofs::Reading::digit_byte))]
 fn digit_at(text: &[u8], at: usize) -> Option<u64>
     ensures some { IfSome result (DigitAt text.now at) }
     ensures none { IsNone result → lead_digits (drop at text.now) ≡ [] }
@@ -42,16 +43,11 @@ fn digit_at(text: &[u8], at: usize) -> Option<u64>
 }
 
 // How many digits the numeral of `n` has.
+#[tactic(auto, using(crate::proofs::Writing::numeral_length_zero, crate::proofs::Writing::numeral_length_is))]
 pub fn digits(n: u32) -> usize
     ensures { result ≡ length (numeral n) }
 {
-    let mut count = 1;
-    let mut left = n;
-    while 10 <= left {
-        left /= 10;
-        count += 1;
-    }
-    count
+    n.checked_ilog10().unwrap_or(0) as usize + 1
 }
 
 // Writes the numeral of `n` at `at` and answers the place after it; where the buffer has no room for all of it, there is no such place,
