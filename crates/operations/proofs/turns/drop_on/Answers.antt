@@ -8,5 +8,5 @@ use Rattle.operations.proofs.turns.drop_on.Goals as goal
 pub returns : goal.returns
 unfolding drop_rule
 returns c =
-    c.at_window-answer.ensures (drop_at)
-    (λ x t few fits turned. turns-guarded _ _ (drop_at) fits (search rules))
+    c.at_window-answer.ensures drop_at
+    (λ x t few fits turned. turns-guarded _ _ drop_at fits (search rules))
