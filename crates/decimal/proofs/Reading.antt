@@ -1,6 +1,6 @@
 -- What `digit_at` and `read` rest on: the digits at a place, from the byte that stands there, and what `read_at` answers, from the
 -- digits' value and number.
-use Prim.Native.Nat.{ℕ, suc, ◌+◌, ◌*◌, ◌-◌, ◌≤◌, ◌<◌}
+use Prim.Native.Nat.{ℕ, ◌+◌, ◌*◌, ◌-◌, ◌≤◌, ◌<◌}
 use native.Mathlib.Omega.{arith}
 use native.Mathlib.Nat.{add-zero}
 use native.Mathlib.Numerals.{add-one}
@@ -14,37 +14,31 @@ use borrow.Author.Tests.{le-leb, lt-leb, eq-eqb, ne_eqb}
 use Rattle.decimal.specs.Numeral.{is_digit, lead_digits, value_from, canonical, read_at}
 use Rattle.decimal.specs.Digit.{DigitAt}
 use Rattle.decimal.specs.Value.{lead_digits-digit, lead_digits-other}
+use Rattle.lists.specs.All.{between-bounds}
+use Rattle.std.specs.Prelude.{Some, None}
 
 -- DigitAt
 
-no_digit : (text : List ℕ) (at : ℕ) → lead_digits (drop at text) ≡ [] → DigitAt text at 10
-no_digit text at h = record { inside = omega arith; digit = λ p. absurd (omega arith); none = λ p. h }
-
-pub past_end : (text : List ℕ) (at : ℕ) → length text ≤ at → DigitAt text at 10
+pub past_end : (text : List ℕ) (at : ℕ) → length text ≤ at → lead_digits (drop at text) ≡ []
 unfolding lead_digits
-past_end text at h = no_digit text at (ap lead_digits (drop_of_length-le text h))
+past_end text at h = ap lead_digits (drop_of_length-le text h)
 
-other_byte : (text : List ℕ) (at : ℕ) → at < length text → is_digit (get_or text at 0) ≡ false → DigitAt text at 10
-other_byte text at h e = no_digit text at (rw (drop-cons text at 0 h) (lead_digits-other (get_or text at 0) (drop (suc at) text) e))
+module _ (text : List ℕ) (at b : ℕ) (inside : at < length text) (here : b ≡ get_or text at 0) where
+  byte-text : drop at text ≡ b ∷ drop (at + 1) text
+  byte-text = rw (add-one, drop-cons text at 0 inside, here)
 
-pub below-digits : (text : List ℕ) (at : ℕ) → at < length text → get_or text at 0 < 48 → DigitAt text at 10
-below-digits text at h p = other_byte text at h (simp (lt-leb 48 (get_or text at 0) p))
+  pub other_byte : is_digit b ≡ false → lead_digits (drop at text) ≡ []
+  other_byte e = rw byte-text (lead_digits-other b (drop (at + 1) text) e)
 
-pub above-digits : (text : List ℕ) (at : ℕ) → at < length text → 57 < get_or text at 0 → DigitAt text at 10
-above-digits text at h p = other_byte text at h (simp (lt-leb (get_or text at 0) 57 p, and-false))
-
-pub within-digits : (text : List ℕ) (at : ℕ) → at < length text → 48 ≤ get_or text at 0 → get_or text at 0 ≤ 57
-    → DigitAt text at (get_or text at 0 - 48)
-within-digits text at h p q =
-    let b : ℕ = get_or text at 0 in
-    let e : 48 + (b - 48) ≡ b = omega arith in
-    record {
-      inside = λ _. h;
-      digit = λ _.
-          rw (add-one, drop-cons text at 0 h, e)
-          (lead_digits-digit b (drop (suc at) text) (simp (le-leb 48 b p, le-leb b 57 q)));
-      none = λ r. absurd (omega arith);
-    }
+  pub digit_byte : is_digit b ≡ true → DigitAt text at (b - 48)
+  digit_byte e =
+      let (p, q) = between-bounds 48 57 b e in
+      let same : 48 + (b - 48) ≡ b = omega arith in
+      record {
+        below_ten = omega arith;
+        inside = inside;
+        digit = rw (byte-text, same) (lead_digits-digit b (drop (at + 1) text) e);
+      }
 
 -- lead_digits
 
@@ -110,46 +104,40 @@ module _ (bound : ℕ) (text : List ℕ) (at : ℕ) where
 
 -- Passed: what a turn of `read`'s loop keeps. v is the value of the digits from `at` to before i, and with the digits from i on it makes
 -- the value of all of them.
-pub record Passed (text : List ℕ) (at v i d : ℕ) : Type 0 where
+pub record Passed (text : List ℕ) (at v i : ℕ) : Type 0 where
   pub from : at ≤ i
-  pub here : DigitAt text i d
   pub value : value_from 0 (lead_digits (drop at text)) ≡ value_from v (lead_digits (drop i text))
   pub count : at + length (lead_digits (drop at text)) ≡ i + length (lead_digits (drop i text))
 
-pub passed_none : (text : List ℕ) (at d : ℕ) → DigitAt text at d → Passed text at 0 at d
-passed_none text at d h = record { from = omega arith; here = h; value = refl; count = refl }
+pub passed_none : (text : List ℕ) (at : ℕ) → Passed text at 0 at
+passed_none text at = record { from = omega arith; value = refl; count = refl }
 
-module _ {text : List ℕ} {at v i d : ℕ} (p : Passed text at v i d) where
+module _ {text : List ℕ} {at v i : ℕ} (p : Passed text at v i) where
   -- one digit more
-  passed-digit : d < 10 → value_from 0 (lead_digits (drop at text)) ≡ value_from (v * 10 + d) (lead_digits (drop (i + 1) text))
+  passed-digit : (d : ℕ) → DigitAt text i d → value_from 0 (lead_digits (drop at text)) ≡ value_from (v * 10 + d) (lead_digits (drop (i + 1) text))
   unfolding value_from
-  passed-digit h =
+  passed-digit d h =
       let e : 48 + d - 48 ≡ d = omega arith in
-      p.value ∙ ap (value_from v) (p.here.digit h) ∙ ap (λ (x : ℕ). value_from (v * 10 + x) (lead_digits (drop (i + 1) text))) e
+      p.value ∙ ap (value_from v) h.digit ∙ ap (λ (x : ℕ). value_from (v * 10 + x) (lead_digits (drop (i + 1) text))) e
 
-  pub passed-more : (x : ℕ) → d < 10 → DigitAt text (i + 1) x → Passed text at (v * 10 + d) (i + 1) x
-  passed-more x h n =
-      record {
-        from = omega (arith, p.from);
-        here = n;
-        value = passed-digit h;
-        count = omega (arith, p.count, ap length (p.here.digit h));
-      }
+  pub passed-more : (d : ℕ) → DigitAt text i d → Passed text at (v * 10 + d) (i + 1)
+  passed-more d h =
+      record { from = omega (arith, p.from); value = passed-digit d h; count = omega (arith, p.count, ap length h.digit) }
 
 -- What `read` answers after the digits that it passed.
-module _ (bound : ℕ) {text : List ℕ} {at v i d : ℕ} (p : Passed text at v i d) where
-  pub answer-above : d < 10 → bound < v * 10 + d → None ≡ read_at bound text at
-  answer-above h q =
+module _ (bound : ℕ) {text : List ℕ} {at v i : ℕ} (p : Passed text at v i) where
+  pub answer-above : (d : ℕ) → DigitAt text i d → bound < v * 10 + d → None ≡ read_at bound text at
+  answer-above d h q =
       sym (read_above bound text at
-      (omega (arith, passed-digit p h, value_from-le (v * 10 + d) (lead_digits (drop (i + 1) text)))))
+      (omega (arith, passed-digit p d h, value_from-le (v * 10 + d) (lead_digits (drop (i + 1) text)))))
 
-  module _ (end : 10 ≤ d) where
+  module _ (end : lead_digits (drop i text) ≡ []) where
     all-value : value_from 0 (lead_digits (drop at text)) ≡ v
     unfolding value_from
-    all-value = p.value ∙ rw (p.here.none end)
+    all-value = p.value ∙ rw (end)
 
     all-count : at + length (lead_digits (drop at text)) ≡ i
-    all-count = omega (arith, p.count, ap length (p.here.none end))
+    all-count = omega (arith, p.count, ap length (end))
 
     pub answer-none : i - at ≡ 0 → None ≡ read_at bound text at
     answer-none k = sym (read-other bound text at (canonical-none (lead_digits (drop at text)) (omega (arith, all-count))))

@@ -1,8 +1,8 @@
--- What stands at a place of a text: a digit d, or none, where d is not below 10.
-use Rattle.std.specs.Prelude.{ℕ, ◌+◌, ◌≤◌, ◌<◌, List, [], ◌∷◌, ◌≡◌, length, drop}
+-- What stands at a place of a text where a digit d does.
+use Rattle.std.specs.Prelude.{ℕ, ◌+◌, ◌<◌, List, ◌∷◌, ◌≡◌, length, drop}
 use Rattle.decimal.specs.Numeral.{lead_digits}
 
 pub record DigitAt (text : List ℕ) (at d : ℕ) : Type 0 where
-  pub inside : d < 10 → at < length text
-  pub digit : d < 10 → lead_digits (drop at text) ≡ (48 + d) ∷ lead_digits (drop (at + 1) text)
-  pub none : 10 ≤ d → lead_digits (drop at text) ≡ []
+  pub below_ten : d < 10
+  pub inside : at < length text
+  pub digit : lead_digits (drop at text) ≡ (48 + d) ∷ lead_digits (drop (at + 1) text)

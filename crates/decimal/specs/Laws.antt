@@ -1,14 +1,15 @@
 -- Laws of reading and writing: reading accepts exactly the numerals of at most the bound, and what was written reads back.
 use Rattle.std.specs.Prelude.{ℕ, ◌+◌, ◌≤◌, ◌<◌, ◌≡◌, refl, List, [], ◌∷◌, ◌++◌, Bool, true, false, ◌&&◌, length, take, drop, replicate, leb}
-use Rattle.std.proofs.Common.{arith, ◌∙◌, ap, append_assoc, drop-drop, length-take-le, le-leb, leb-true, leb-false}
+use Rattle.std.specs.Prelude.{Some, None}
+use Rattle.std.proofs.Common.{arith, sym, ◌∙◌, ap, append_assoc, drop-drop, length-take-le, le-leb, leb-true, leb-false}
 use Rattle.std.proofs.Math.Bool.{and-eq-true_iff}
 use Rattle.std.proofs.Math.Seq.{drop-append_seam}
 use Rattle.std.proofs.lemmas.Bool.{lt-leb}
+use Rattle.std.proofs.lemmas.Option.{some_pair_parts}
 use Rattle.lists.specs.Over.{over, over-length}
 use Rattle.decimal.specs.Numeral.{lead_digits, value_from, canonical, numeral, read_at, room, write_at, with_numeral}
 use Rattle.decimal.specs.Value.{lead_digits-again, lead_digits-split, lead_digits-rest, lead_digits-numeral}
 use Rattle.decimal.specs.Value.{value-numeral, canonical-numeral, numeral-canonical}
-use Rattle.decimal.specs.declared.Written.TheVariants.{To, NoRoom}
 
 -- Reading
 
@@ -52,9 +53,8 @@ read-accepts bound text at n next e = go (canonical ds && leb (value_from 0 ds) 
     go true p =
         let both = (and-eq-true_iff (canonical ds) (leb (value_from 0 ds) bound)).0 p in
         let r : read_at bound text at ≡ Some (value_from 0 ds, at + length ds) = simp p in
-        let v : n ≡ value_from 0 ds = cc in
+        let (v, x) = some_pair_parts _ _ _ _ (sym e ∙ r) in
         let w : numeral n ≡ ds = ap numeral v ∙ numeral-canonical ds (lead_digits-again (drop at text)) both.0 in
-        let x : next ≡ at + length ds = cc in
         record {
           within = omega (arith, leb-true (value_from 0 ds) bound both.1);
           next_place = rw w x;
@@ -69,7 +69,7 @@ read-accepts bound text at n next e = go (canonical ds && leb (value_from 0 ds) 
 -- Writing
 
 -- where there is room: the place after the numeral, and the numeral written over the buffer
-pub write-room : (n size at : ℕ) → at + length (numeral n) ≤ size → write_at n size at ≡ To (at + length (numeral n))
+pub write-room : (n size at : ℕ) → at + length (numeral n) ≤ size → write_at n size at ≡ Some (at + length (numeral n))
 unfolding write_at
 write-room n size at h = simp (le-leb (at + length (numeral n)) size h)
 
@@ -79,7 +79,7 @@ unfolding with_numeral
 with_numeral-room n buf at h = simp (le-leb (at + length (numeral n)) (length buf) h)
 
 -- where there is none: the buffer as it was
-pub write-full : (n size at : ℕ) → size < at + length (numeral n) → write_at n size at ≡ NoRoom
+pub write-full : (n size at : ℕ) → size < at + length (numeral n) → write_at n size at ≡ None
 unfolding write_at
 write-full n size at h = simp (lt-leb (at + length (numeral n)) size h)
 
@@ -92,7 +92,7 @@ pub record Fitted (n size at next : ℕ) : Type 0 where
   pub fits : at + length (numeral n) ≤ size
   pub next_place : next ≡ at + length (numeral n)
 
-pub write-accepts : (n size at next : ℕ) → write_at n size at ≡ To next → Fitted n size at next
+pub write-accepts : (n size at next : ℕ) → write_at n size at ≡ Some next → Fitted n size at next
 write-accepts n size at next e = go (room n size at) refl
   where
     go : (t : Bool) → room n size at ≡ t → Fitted n size at next

@@ -5,7 +5,7 @@ use Rattle.decimal.proofs.Reading.{Passed}
 use Rattle.decimal.proofs.read.Given as goal
 
 abbrev pub invariant-loop-d : goal.invariant-loop-d
-invariant-loop-d l = (l.value ≤ l.bound) × Passed l.text l.at l.value l.i l.d
+invariant-loop-d l = (l.value ≤ l.bound) × Passed l.text l.at l.value l.i
 
 abbrev pub decreases-loop-d : goal.decreases-loop-d
 decreases-loop-d l = length l.text - l.i
