@@ -1,4 +1,5 @@
--- What `write` and `fill` rest on: what is answered; a number's last digit stored at its place, and the digits before it written over that, are the number written; and what its loop keeps.
+-- What `write` and `fill` rest on: what is answered; a number's last digit stored at its place, and the digits before it written over
+-- that, are the number written; and what the loop keeps.
 use Prim.Native.Nat.{ℕ, suc, ◌*◌, ◌^◌, ◌+◌, ◌-◌, ◌/◌, ◌%◌, ◌≤◌, ◌<◌}
 use native.Mathlib.Omega.{arith}
 use mathlib.Core.Path.{◌≡◌, ◌∙◌, sym}

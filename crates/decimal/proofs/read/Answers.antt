@@ -26,12 +26,12 @@ returns-then-from-value c =
     (omega (arith, next, c.loop-digit.invariant.1))
 
 pub loop-digit-preserved : goal.loop-digit-preserved
-loop-digit-preserved c = 
+loop-digit-preserved c =
     let next = value_from-next (take c.leading_digits.result c.in_ok-rest.rest.now) c.loop-digit.digit-index c.loop-digit-test.true in
     (omega arith, omega (arith, next, c.loop-digit.invariant.1))
 
 pub returns : goal.returns
-returns c = 
+returns c =
     let all = ap (value_from 0) (take_all _ (take c.leading_digits.result c.in_ok-rest.rest.now) c.loop-digit-test.false) in
     answer-number _ _ _ _ _ c.in_ok-rest.ensures.lookup.0.2 c.leading_digits.ensures _ (sym c.if-not-is_canonical.ensures)
     (c.loop-digit.invariant.1 ∙ all) c.loop-digit.invariant.0
