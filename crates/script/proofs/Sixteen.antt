@@ -1,4 +1,4 @@
--- The lengths of the arrays in what code holds: a stage's sixteen windows, records and lines, and a line's cells.
+-- The lengths of the arrays in what code holds: a stage's sixteen windows, records and lines.
 use Prim.Native.Nat.{◌≤◌}
 use mathlib.Core.Path.{◌≡◌}
 use mathlib.Core.List.{List}
@@ -6,20 +6,10 @@ use lib.ListN.{length}
 use mir.Val.{Val}
 use denote.Laws.{Is}
 use denote.Struct.Declared.{row}
-use Rattle.script.specs.declared.line.Entries.{Entries}
-use Rattle.script.specs.declared.line.Acks.{Acks}
 use Rattle.script.specs.declared.Stage.{Stage}
 use Rattle.script.proofs.Worlds.{Staged}
 use Rattle.player.proofs.Sixteen as player
-use Rattle.script.specs.contracts.line.Entries as entries
-use Rattle.script.specs.contracts.line.Acks as acks
 use Rattle.script.specs.contracts.Stage as stage
-
-pub entries-length : (e : Entries) (vs : List Val) → Is (row entries.the_type) e vs → length e.cells ≡ 18
-entries-length e vs h = h.1.1.0.1.0.1
-
-pub acks-length : (a : Acks) (vs : List Val) → Is (row acks.the_type) a vs → length a.cells ≡ 9
-acks-length a vs h = h.1.1.0.1.0.1
 
 pub records-length : (s : Stage) (vs : List Val) → Is (row stage.the_type) s vs → length s.records ≡ 16
 records-length s vs h = h.1.1.1.0.1.0.1
