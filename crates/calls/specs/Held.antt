@@ -4,9 +4,7 @@ use Rattle.std.proofs.Common.{sym, ap, ap₂, ◌∙◌, ⊎_elim, drop_at}
 use Rattle.std.proofs.lemmas.List.{length-map}
 use Rattle.lists.specs.Cases.{eq-or-ne, true-or-false}
 use Rattle.lists.specs.Cells.{front}
-use Rattle.queue.specs.declared.Queue.{Queue}
-use Rattle.queue.specs.declared.Batches.{Batches}
-use Rattle.queue.specs.Items.{items_of, batches_of}
+use Rattle.queue.specs.Items.{Queue, Batches, items_in, items_of, batches_of}
 use Rattle.record.specs.declared.Record.{Record}
 use Rattle.record.specs.declared.Taken.{Taken}
 use Rattle.record.specs.declared.Answer.TheVariants.{Done, OutOfShape, Full}
@@ -43,11 +41,11 @@ front_of [] more = refl
 front_of (x ∷ l) more = ap (λ t. x ∷ t) (front_of l more)
 
 items_of-from : (l : List ℕ) → items_of (queue_from l) ≡ l
-unfolding items_of queue_from filled
+unfolding items_in queue_from filled
 items_of-from l = front_of l _
 
 batches_of-from : (l : List ℕ) → batches_of (batches_from l) ≡ l
-unfolding batches_of batches_from filled
+unfolding items_in batches_from filled
 batches_of-from l = front_of l _
 
 -- ------------------------------------------------------------------------

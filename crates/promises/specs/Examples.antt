@@ -4,7 +4,7 @@ use Rattle.std.proofs.Math.Path.{refl}
 use Rattle.std.proofs.Common.{ap, ◌∙◌, arith}
 use Rattle.lists.specs.Cells.{front}
 use Rattle.journal.specs.Entry.{entry4, entries_of}
-use Rattle.queue.specs.Items.{items_of, batches_of}
+use Rattle.queue.specs.Items.{items_in}
 use Rattle.rules.specs.declared.Settings.{Settings}
 use Rattle.window.specs.declared.Answer.TheVariants.{Done}
 use Rattle.window.specs.View.{view_of}
@@ -68,7 +68,7 @@ taken0 =
 module _ (before : Player) where
   -- the Start meets its promise and is answered 0
   pub begun-starts : FirstStart before journal3 2 (chosen 1 0) begun
-  unfolding computed player_of first_windows fresh_windows view_of items_of batches_of front
+  unfolding computed player_of first_windows fresh_windows view_of items_in front
   begun-starts = record { answer = refl; next = refl; fresh = λ z. refl; unchanged = λ n. absurd (n refl) }
 
   -- the world that the host shows

@@ -16,7 +16,7 @@ kept x n to from cells = front 0 to cells ++ above x (drop from (front 0 n cells
 
 -- a store before the place leaves the rest as it is
 front-later : (n k i y : ℕ) (cells : List ℕ) → i < k → drop k (front 0 n (set cells i y)) ≡ drop k (front 0 n cells)
-front-later n k i y cells h = rw (front-drop n (set cells i y) k, front-drop n cells k, drop-set-lt k cells i y h)
+front-later n k i y cells h = rw (front-drop 0 n (set cells i y) k, front-drop 0 n cells k, drop-set-lt k cells i y h)
 
 module _ (x n to from : ℕ) (cells : List ℕ) where
   -- a cell above x is kept
@@ -27,7 +27,7 @@ module _ (x n to from : ℕ) (cells : List ℕ) where
       rw (
         front-push 0 to cells (get_or cells from 0) room,
         front-later n (from + 1) to (get_or cells from 0) cells (omega arith),
-        front_at n cells from here,
+        front_at 0 n cells from here,
         lt-ltb x (get_or cells from 0) high,
         append_snoc,
       )
@@ -35,9 +35,9 @@ module _ (x n to from : ℕ) (cells : List ℕ) where
   -- any other is passed over
   pub kept-passed : from < n → get_or cells from 0 ≤ x → kept x n to (from + 1) cells ≡ kept x n to from cells
   unfolding above
-  kept-passed here low = rw (front_at n cells from here, le-ltb x (get_or cells from 0) low)
+  kept-passed here low = rw (front_at 0 n cells from here, le-ltb x (get_or cells from 0) low)
 
   -- at the end nothing is left to be looked at
   pub kept-all : n ≤ from → kept x n to from cells ≡ front 0 to cells
   unfolding above
-  kept-all h = rw (front-end n cells from h) (append-nil _)
+  kept-all h = rw (front-end 0 n cells from h) (append-nil _)

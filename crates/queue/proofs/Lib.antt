@@ -1,5 +1,4 @@
 -- What the proofs share besides the laws of specs/.
-mod Moved
 mod Kept
 mod Tested
 pub mod Laws

@@ -16,16 +16,15 @@
 mod bench;
 mod show;
 
+use bench::Bench;
 use std::io;
 use std::io::Read;
 
 // Plays the bytes of the cases, one after another.
 fn play(rt: &impl Print, text: &[u8]) -> io::Result<()> {
-    let mut bench = bench::fresh();
-    let mut i = 0;
-    while i < text.len() {
-        bench = bench::feed(rt, bench, text[i])?;
-        i += 1;
+    let mut bench = Bench::new();
+    for &byte in text {
+        bench = bench.feed(rt, byte)?;
     }
     Ok(())
 }

@@ -1,4 +1,4 @@
-use Prim.Native.Nat.{◌<◌}
+use Prim.Native.Nat.{◌<◌, ◌≤◌}
 use native.Mathlib.Omega.{arith}
 use mathlib.Core.Path.{refl, sym, ◌∙◌}
 use lib.ListN.{length, length-set}
@@ -10,20 +10,21 @@ use Rattle.queue.proofs.cells.keep_above.Goals.{then-x-y, else-x-y}
 
 pub loop-from-init : goal.loop-from-init
 unfolding front
-loop-from-init c = (search rules, search rules, refl, refl)
+loop-from-init c = (search rules, refl, refl)
 
 pub loop-from-preserved : goal.loop-from-preserved
 loop-from-preserved c =
     let at = c.loop-from in
-    let here = c.loop-from-test.true in
-    let room : at.to < length at.cells = omega (arith, at.invariant.2) in
+    let here : at.from < c.args.n = omega arith in
+    let room : at.to < length at.cells = omega (arith, at.invariant.1) in
     elim c.if-x-y.branch [
       | then-x-y w ↦ rw (w.cells-is, w.to-is)
-          (omega arith, omega arith, rw length-set at.invariant.2, kept-moved _ _ _ _ _ here at.invariant.0 room w.if-x-y.true ∙ at.invariant.3)
-      | else-x-y w ↦ rw (w.cells-is, w.to-is) (omega arith, omega arith, at.invariant.2, kept-passed _ _ _ _ _ here w.if-x-y.false ∙ at.invariant.3)
+          (omega arith, rw length-set at.invariant.1, kept-moved _ _ _ _ _ here at.invariant.0 room w.if-x-y.true ∙ at.invariant.2)
+      | else-x-y w ↦ rw (w.cells-is, w.to-is) (omega arith, at.invariant.1, kept-passed _ _ _ _ _ here w.if-x-y.false ∙ at.invariant.2)
     ]
 
 pub returns : goal.returns
 returns c =
     let at = c.loop-from in
-    sym (kept-all _ _ _ _ _ c.loop-from-test.false) ∙ at.invariant.3
+    let end : c.args.n ≤ at.from = omega arith in
+    sym (kept-all _ _ _ _ _ end) ∙ at.invariant.2
