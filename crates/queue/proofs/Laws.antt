@@ -11,8 +11,9 @@ use Rattle.std.proofs.Math.Nat.{suc-sub-suc, sub-zero, zero-sub}
 use Rattle.std.proofs.Math.ListN.{get_or-eq_default}
 use Rattle.std.proofs.Math.Seq.{drop-nil}
 use Rattle.std.proofs.lemmas.Bool.{lt-leb}
-use Rattle.queue.specs.Items.{items_in, items_of, batches_of, fresh_queue, fresh_batches, pushed, fits_cell, queued, where_fits}
-use Rattle.lists.specs.Cells.{front, front_length, front-push}
+use Rattle.queue.specs.declared.Row.{Row}
+use Rattle.queue.specs.Items.{items_in, items_of, batches_of, fresh_queue, fresh_batches, pushed, fits_cell, queued, where_fits, skipped}
+use Rattle.lists.specs.Cells.{front, front_length, front-push, front-first}
 
 -- front
 
@@ -162,3 +163,26 @@ module _ {A : Type 0} (size : ℕ) (f : List A → List A) where
   -- what is made of the items of a row that has no more than it may
   pub where_fits-front-fits : (d : A) (n : ℕ) (cells : List A) → n ≤ size → where_fits size f (front d n cells) ≡ f (front d n cells)
   where_fits-front-fits d n cells h = where_fits-fits (front d n cells) (rw front_length h)
+
+-- ------------------------------------------------------------------------
+-- The items of a row of at most n, where there is room, and where there are no more than it may have
+
+module _ {A : Type 0} {n : ℕ} (d : A) (r : Row A n) where
+  pub items_in-length : length (items_in d r) ≡ r.len
+  unfolding items_in
+  items_in-length = front_length d r.len r.cells
+
+  pub items_in-none : r.len ≡ 0 → items_in d r ≡ []
+  unfolding items_in front
+  items_in-none h = rw h
+
+  -- the oldest, and those after it
+  pub items_in-first : 0 < r.len → items_in d r ≡ get_or r.cells 0 d ∷ drop 1 (items_in d r)
+  unfolding items_in
+  items_in-first h = front-first d r.len r.cells h
+
+  pub pushed-items : (x : A) → r.len < n → pushed n x (items_in d r) ≡ items_in d r ++ (x ∷ [])
+  pushed-items x h = pushed_room n x (items_in d r) (rw items_in-length h)
+
+  pub skipped-items : (k : ℕ) → r.len ≤ n → skipped n k (items_in d r) ≡ drop k (items_in d r)
+  skipped-items k h = where_fits-fits n (drop k) (items_in d r) (rw items_in-length h)

@@ -1,5 +1,5 @@
 // What every row does, whatever its items are.
-ghost use Rattle.std.specs.Prelude.{◌≡◌, [], length, slice_get};
+ghost use Rattle.std.specs.Prelude.{◌≡◌, [], length, get_or, slice_get};
 ghost use Rattle.queue.specs.Items.{items_in, fresh_row, pushed, skipped};
 
 use crate::{Fresh, Item, Row};
@@ -65,6 +65,16 @@ impl<T: Item, const N: usize> Row<T, N> {
             return Some(T::NONE);
         }
         Some(self.cells[k])
+    }
+
+    // The oldest item, where there is one: what the first cell holds.
+    pub fn first(self) -> T
+        ensures { result ≡ get_or self.cells 0 T.NONE }
+    {
+        if N == 0 {
+            return T::NONE;
+        }
+        self.cells[0]
     }
 
     // The number of items.

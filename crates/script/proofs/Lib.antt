@@ -8,4 +8,3 @@ pub mod Sends
 pub mod EarlyLaws
 pub mod Played
 pub mod Opening
-mod Sixteen

@@ -28,7 +28,8 @@ use Rattle.player.specs.Promise.{fresh_player, blank_player, Starts}
 use Rattle.operations.specs.Starting.{fresh_player-shown}
 use Rattle.delivery.specs.World.{Side, new_side, opened}
 use Rattle.delivery.specs.Statement.{first_start, first_world}
-use Rattle.script.specs.Line.{fresh_line, sent_in, acks_in}
+use Rattle.queue.specs.Items.{items_in}
+use Rattle.script.specs.Line.{fresh_line}
 use Rattle.script.specs.Stage.{sides_of, world_with, world_of, forget, forgotten}
 use Rattle.script.specs.Opening.{around_player, run_settings, opening_answer, opened_by}
 
@@ -37,7 +38,7 @@ use Rattle.script.specs.Opening.{around_player, run_settings, opening_answer, op
 
 -- new records and empty lines
 sides_of-new : (n : ℕ) (vs : List WindowView) → length vs ≤ n → sides_of vs (replicate n new_record) (replicate n fresh_line) ≡ map new_side vs
-unfolding sides_of sent_in acks_in front
+unfolding sides_of items_in front
 sides_of-new n [] h = refl
 sides_of-new zero (v ∷ vs) h = absurd (omega arith)
 sides_of-new (suc n) (v ∷ vs) h = ap (λ ps. new_side v ∷ ps) (sides_of-new n vs (omega arith))

@@ -26,6 +26,7 @@ use Rattle.script.specs.declared.line.Line.{Line}
 use Rattle.script.specs.declared.settle.Settled.{Settled}
 use Rattle.script.specs.declared.Stage.{Stage}
 use Rattle.script.specs.declared.Reply.TheVariants.{Answered, Empty}
+use Rattle.queue.specs.Items.{items_in}
 use Rattle.script.specs.Line.{no_ack, world_sent, world_ack, sent_in, acks_in, fresh_line, AckedOff, sent_in-none, acks_in-none, acks_in-first}
 use Rattle.script.specs.Stage.{side_of, world_of, forget, forgotten, step_in, record_in, line_in}
 use Rattle.script.specs.Promise.{Steps}
@@ -135,7 +136,7 @@ module _ (ns : List ℕ) (s : Stage) (h : Staged s) (e : in_shape ns ≡ true) (
 
   pub join-steps : (r : Played) (x : Settled) → Meets s.player r (outcome_at ns s.player (slot_in w s) (At Join w)) →
       number_of r.answer ≡ 0 → x ≡ settled_as (slot_in w s) fresh_line → Steps (entries_of ns) s (At Join w) (stored_by s w r.player x)
-  unfolding sent_in acks_in front forgotten
+  unfolding items_in front forgotten
   join-steps r x k zero own =
       let d = join_rule-done ns w (record_in w s).last.0 player (sym k.answer ∙ zero) in
       rw own

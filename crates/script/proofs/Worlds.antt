@@ -27,7 +27,8 @@ use Rattle.script.specs.declared.line.Line.{Line}
 use Rattle.script.specs.declared.Stage.{Stage}
 use Rattle.lists.specs.Cells.{front}
 use Rattle.lists.specs.Set.{get_or-any}
-use Rattle.script.specs.Line.{sent_in, acks_in, fresh_line}
+use Rattle.queue.specs.Items.{items_in}
+use Rattle.script.specs.Line.{fresh_line}
 use Rattle.script.specs.Stage.{side_of, sides_of, world_with, world_of, forget, forgotten, record_in, line_in}
 use Rattle.script.specs.Stored.{absent, present, slot_in, stored_at}
 use Rattle.script.proofs.Sides.{sides_of-length, sides_of-forget, sides_of-views, sides_of-at, sides_of-set, sides_of-with}
@@ -112,7 +113,7 @@ module _ (j : List Entry) (s : Stage) (h : Staged s) where
 
   -- a window's side: what the player holds for it, its record and its line
   pub world_of-side : (w : ℕ) → side_at w (world_of j s) ≡ side_of (window_at w (player_of s.player)) (record_in w s) (line_in w s)
-  unfolding world_of sent_in acks_in front
+  unfolding world_of items_in front
   world_of-side w = by (ltb w s.player.count) refl
     where
       by : (b : Bool) → ltb w s.player.count ≡ b → side_at w (world_of j s)

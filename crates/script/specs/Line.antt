@@ -4,12 +4,12 @@ use Rattle.std.proofs.Common.{arith}
 use Rattle.journal.specs.Entry.{Placed, entry4, five_of}
 use Rattle.rules.specs.declared.Term.{Term}
 use Rattle.delivery.specs.World as W
+use Rattle.queue.specs.declared.Row.{Row}
+use Rattle.queue.specs.Items.{items_in}
+use Rattle.queue.proofs.Laws.{items_in-length, items_in-none, items_in-first}
 use Rattle.script.specs.declared.line.Sent.{Sent}
 use Rattle.script.specs.declared.line.Ack.{Ack}
-use Rattle.script.specs.declared.line.Entries.{Entries}
-use Rattle.script.specs.declared.line.Acks.{Acks}
 use Rattle.script.specs.declared.line.Line.{Line}
-use Rattle.lists.specs.Cells.{front, front_length, front-first}
 
 -- ------------------------------------------------------------------------
 -- A line as a world has it
@@ -32,11 +32,17 @@ abbrev pub no_ack : Ack
 no_ack = record { term = record { 0 = 0 }; index = record { 0 = 0 } }
 
 -- the entries on their way and the acks on their way back, oldest first: the cells below the length
-unfoldable pub sent_in : Entries → List Sent
-sent_in e = front no_sent e.len e.cells
+abbrev pub Entries : Type 0
+Entries = Row Sent 18
 
-unfoldable pub acks_in : Acks → List Ack
-acks_in a = front no_ack a.len a.cells
+abbrev pub Acks : Type 0
+Acks = Row Ack 9
+
+abbrev pub sent_in : Entries → List Sent
+sent_in e = items_in no_sent e
+
+abbrev pub acks_in : Acks → List Ack
+acks_in a = items_in no_ack a
 
 -- an empty line
 abbrev pub fresh_entries : Entries
@@ -67,11 +73,6 @@ batch_shown out t =
 -- the ack of a batch's last entry
 abbrev pub ack_for : Sent → Ack
 ack_for x = record { term = x.term; index = record { 0 = get_or x.numbers 0 0 } }
-
--- one entry more
-pub record Longer (e : Entries) (x : Sent) (r : Entries) : Type 0 where
-  pub len : r.len ≡ e.len + 1
-  pub list : sent_in r ≡ sent_in e ++ (x ∷ [])
 
 -- a batch more
 pub record Grown (l : Line) (batch : List Sent) (r : Line) : Type 0 where
@@ -104,26 +105,20 @@ five_of-placed_of (a ∷ b ∷ c ∷ d ∷ f ∷ g ∷ ns) e = absurd (omega ari
 -- sent_in, acks_in
 
 pub sent_in-none : (e : Entries) → e.len ≡ 0 → sent_in e ≡ []
-unfolding sent_in front
-sent_in-none e z = rw z
+sent_in-none e z = items_in-none no_sent e z
 
 pub acks_in-none : (a : Acks) → a.len ≡ 0 → acks_in a ≡ []
-unfolding acks_in front
-acks_in-none a z = rw z
+acks_in-none a z = items_in-none no_ack a z
 
 -- the front of a way that is not empty
 pub sent_in-first : (e : Entries) (x : Sent) → 0 < e.len → x ≡ get_or e.cells 0 no_sent → sent_in e ≡ x ∷ drop 1 (sent_in e)
-unfolding sent_in
-sent_in-first e x some is = rw is (front-first no_sent e.len e.cells some)
+sent_in-first e x some is = rw is (items_in-first no_sent e some)
 
 pub acks_in-first : (a : Acks) (x : Ack) → 0 < a.len → x ≡ get_or a.cells 0 no_ack → acks_in a ≡ x ∷ drop 1 (acks_in a)
-unfolding acks_in
-acks_in-first a x some is = rw is (front-first no_ack a.len a.cells some)
+acks_in-first a x some is = rw is (items_in-first no_ack a some)
 
 pub sent_in-length : (e : Entries) → length (sent_in e) ≡ e.len
-unfolding sent_in
-sent_in-length e = front_length no_sent e.len e.cells
+sent_in-length e = items_in-length no_sent e
 
 pub acks_in-length : (a : Acks) → length (acks_in a) ≡ a.len
-unfolding acks_in
-acks_in-length a = front_length no_ack a.len a.cells
+acks_in-length a = items_in-length no_ack a

@@ -1,9 +1,9 @@
 // A window's line: the entries on their way to it as Send wrote them, and the acks on their way back.
-ghost use Rattle.std.specs.Prelude.{◌+◌, ◌≤◌, ◌<◌, ◌≡◌, [], ◌∷◌, ◌++◌, length, get_or, drop};
-ghost use Rattle.script.specs.Line.{no_sent, no_ack, fresh_entries, fresh_acks, fresh_line, sent_in, acks_in, five_at, batch_shown, Longer};
-ghost use Rattle.script.specs.Line.{Grown, TakenOff, AckedOff};
+ghost use Rattle.std.specs.Prelude.{◌+◌, ◌≤◌, ◌<◌, ◌≡◌, length};
+ghost use Rattle.script.specs.Line.{no_sent, no_ack, fresh_line, five_at, batch_shown, Grown, TakenOff, AckedOff};
 
 use journal::Index;
+use queue::{Item, Row};
 use rules::Term;
 
 // An entry on its way: its five numbers, the term of its batch, and whether it is the batch's last.
@@ -21,19 +21,30 @@ pub struct Ack {
     pub index: Index,
 }
 
-// Entries on their way, oldest first: the cells below the length. A run has at most 16 of them, and a step adds at most two.
-#[derive(Clone, Copy)]
-pub struct Entries {
-    pub cells: [Sent; 18],
-    pub len: usize,
+impl Item for Sent {
+    ghost NONE = { no_sent };
+
+    const NONE: Sent = Sent {
+        numbers: [0; 5],
+        term: Term(0),
+        ends: false,
+    };
 }
 
-// Acks on their way back, oldest first. A run has at most 8 of them, and a step adds at most one.
-#[derive(Clone, Copy)]
-pub struct Acks {
-    pub cells: [Ack; 9],
-    pub len: usize,
+impl Item for Ack {
+    ghost NONE = { no_ack };
+
+    const NONE: Ack = Ack {
+        term: Term(0),
+        index: Index(0),
+    };
 }
+
+// Entries on their way, oldest first. A run has at most 16 of them, and a step adds at most two.
+pub type Entries = Row<Sent, 18>;
+
+// Acks on their way back, oldest first. A run has at most 8 of them, and a step adds at most one.
+pub type Acks = Row<Ack, 9>;
 
 // Both ways of a line.
 #[derive(Clone, Copy)]
@@ -47,117 +58,13 @@ fn five_at(numbers: &[u32], at: usize) -> [u32; 5]
     requires { at + 5 ≤ length numbers.now }
     ensures { result ≡ five_at at numbers.now }
 {
-    let a = numbers[at];
-    let b = numbers[at + 1];
-    let c = numbers[at + 2];
-    let d = numbers[at + 3];
-    let e = numbers[at + 4];
-    [a, b, c, d, e]
-}
-
-impl Entries {
-    fn new() -> Entries
-        ensures { result ≡ fresh_entries }
-    {
-        let none = Sent {
-            numbers: [0; 5],
-            term: Term(0),
-            ends: false,
-        };
-        let cells = [none; 18];
-        Entries { cells, len: 0 }
-    }
-
-    // One more at the end.
-    fn push(self, sent: Sent) -> Entries
-        requires { self.len < 18 }
-        ensures { Longer self sent result }
-    {
-        let at = self.len;
-        let mut e = self;
-        e.cells[at] = sent;
-        e.len = at + 1;
-        e
-    }
-
-    // The oldest, where there is one.
-    pub(crate) fn first(self) -> Sent
-        ensures { result ≡ get_or self.cells 0 no_sent }
-    {
-        let cells = self.cells;
-        cells[0]
-    }
-
-    // All but the oldest.
-    fn rest(self) -> Entries
-        requires { self.len ≤ 18 }
-        ensures { sent_in result ≡ drop 1 (sent_in self) }
-    {
-        let n = self.len;
-        if n == 0 {
-            return self;
-        }
-        let mut cells = self.cells;
-        let mut at = 0;
-        while at < 17 {
-            let next = cells[at + 1];
-            cells[at] = next;
-            at += 1;
-        }
-        Entries { cells, len: n - 1 }
-    }
-}
-
-impl Acks {
-    fn new() -> Acks
-        ensures { result ≡ fresh_acks }
-    {
-        let none = Ack {
-            term: Term(0),
-            index: Index(0),
-        };
-        let cells = [none; 9];
-        Acks { cells, len: 0 }
-    }
-
-    // One more at the end.
-    fn push(self, ack: Ack) -> Acks
-        requires { self.len < 9 }
-        ensures { acks_in result ≡ acks_in self ++ (ack ∷ []) }
-    {
-        let at = self.len;
-        let mut a = self;
-        a.cells[at] = ack;
-        a.len = at + 1;
-        a
-    }
-
-    // The oldest, where there is one.
-    pub(crate) fn first(self) -> Ack
-        ensures { result ≡ get_or self.cells 0 no_ack }
-    {
-        let cells = self.cells;
-        cells[0]
-    }
-
-    // All but the oldest.
-    fn rest(self) -> Acks
-        requires { self.len ≤ 9 }
-        ensures { acks_in result ≡ drop 1 (acks_in self) }
-    {
-        let n = self.len;
-        if n == 0 {
-            return self;
-        }
-        let mut cells = self.cells;
-        let mut at = 0;
-        while at < 8 {
-            let next = cells[at + 1];
-            cells[at] = next;
-            at += 1;
-        }
-        Acks { cells, len: n - 1 }
-    }
+    [
+        numbers[at],
+        numbers[at + 1],
+        numbers[at + 2],
+        numbers[at + 3],
+        numbers[at + 4],
+    ]
 }
 
 impl Line {
@@ -176,34 +83,23 @@ impl Line {
         requires { self.entries.len ≤ 16 }
         ensures { Grown self (batch_shown out term) result }
     {
-        let entries = self.entries;
-        let acks = self.acks;
-        let first = five_at(&out, 0);
-        if out[5] == 0 {
-            let only = Sent {
-                numbers: first,
-                term,
-                ends: true,
-            };
-            return Line {
-                entries: entries.push(only),
-                acks,
-            };
-        }
-        let one = Sent {
-            numbers: first,
+        let ends = out[5] == 0;
+        let entries = self.entries.append(Sent {
+            numbers: five_at(&out, 0),
             term,
-            ends: false,
-        };
-        let two = Sent {
+            ends,
+        });
+        if ends {
+            return Line { entries, ..self };
+        }
+        let last = Sent {
             numbers: five_at(&out, 5),
             term,
             ends: true,
         };
-        let longer = entries.push(one);
         Line {
-            entries: longer.push(two),
-            acks,
+            entries: entries.append(last),
+            ..self
         }
     }
 
@@ -213,23 +109,17 @@ impl Line {
         requires acks_fit { self.acks.len < 9 }
         ensures { TakenOff self sent result }
     {
-        let entries = self.entries;
-        let acks = self.acks;
-        if sent.ends {
-            let numbers = sent.numbers;
-            let term = sent.term;
-            let ack = Ack {
-                term,
-                index: Index(numbers[0]),
-            };
-            return Line {
-                entries: entries.rest(),
-                acks: acks.push(ack),
-            };
+        let entries = self.entries.skip(1);
+        if !sent.ends {
+            return Line { entries, ..self };
         }
+        let ack = Ack {
+            term: sent.term,
+            index: Index(sent.numbers[0]),
+        };
         Line {
-            entries: entries.rest(),
-            acks,
+            entries,
+            acks: self.acks.append(ack),
         }
     }
 
@@ -238,11 +128,9 @@ impl Line {
         requires { self.acks.len ≤ 9 }
         ensures { AckedOff self result }
     {
-        let entries = self.entries;
-        let acks = self.acks;
         Line {
-            entries,
-            acks: acks.rest(),
+            acks: self.acks.skip(1),
+            ..self
         }
     }
 }

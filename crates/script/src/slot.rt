@@ -7,6 +7,7 @@ ghost use Rattle.script.specs.Stored.{absent, slot_in};
 use crate::Stage;
 use crate::line::{Ack, Line};
 use journal::Index;
+use queue::Item;
 use record::Record;
 use rules::Term;
 use window::Condition;
@@ -44,10 +45,7 @@ impl Slot {
             due: Index(0),
             record: Record::new(),
             line: Line::new(),
-            ack: Ack {
-                term: Term(0),
-                index: Index(0),
-            },
+            ack: Ack::NONE,
         }
     }
 }
