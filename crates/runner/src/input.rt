@@ -1,4 +1,4 @@
-// Lines from an input, by way of a buffer. std's `BufReader` needs an allocator, and a rule here is that there is no heap.
+// Lines from an input, by way of a buffer of fixed size.
 ghost use Rattle.std.specs.Prelude.{◌+◌, ◌≤◌, ◌<◌, ◌≡◌, IsTrue, IfSome, length};
 ghost use Rattle.runner.specs.declared.input.TheConstants.{SIZE};
 
@@ -10,7 +10,8 @@ const SIZE: usize = 65536;
 // The most bytes of a step line that are looked at for its LF. No step line has so many.
 const LONGEST: usize = 16;
 
-// An input, and a buffer whose bytes from `at` on and before `end` are read and not yet passed.
+// An input, and a buffer whose bytes from `at` on and before `end` are read and not yet passed. std's `BufReader` needs an
+// allocator, and there is no heap here.
 #[derive(Drop)]
 pub(crate) struct Input<R: Read + Drop> {
     reader: R,
@@ -43,7 +44,8 @@ impl<R: Read + Drop> Input<R> {
         self.at == self.end
     }
 
-    // Reads once, and answers whether bytes came: none do at the end of the input, where the buffer is full and where the read fails.
+    // Reads once, and answers whether bytes came. None do at the end of the input, where the buffer is full and where the
+    // read fails.
     fn read_more(&mut self) -> bool
         ensures stays { self.new.at ≡ self.old.at }
         ensures grows { IsTrue result → self.old.end < self.new.end }
@@ -53,7 +55,8 @@ impl<R: Read + Drop> Input<R> {
         0 < got
     }
 
-    // Passes lines until one is `run`, and answers the bytes before that one. None where the buffer is full or the input ends first.
+    // Passes lines until one is `run`, and answers the bytes before that one. None where the buffer is full or the input
+    // ends first.
     pub(crate) fn head(&mut self) -> Option<&[u8]> {
         loop {
             if let Some(n) = find_lf(&self.buf[self.at..self.end]) {
@@ -69,7 +72,7 @@ impl<R: Read + Drop> Input<R> {
         }
     }
 
-    // How many bytes the next step line has before its LF.
+    // How many bytes the next step line has before its LF. None where no LF is found.
     fn step_len(&self) -> Option<usize>
         ensures { IfSome result (λ n. self.now.at + n < self.now.end) }
     {
@@ -97,7 +100,8 @@ impl<R: Read + Drop> Input<R> {
         None
     }
 
-    // Passes the next step line. Where it is not whole in the buffer, the output that waits is written before more is read.
+    // The next step line, which is passed. None where there is none, or it has no LF or is too long. Where it is not whole
+    // in the buffer, the output that waits is written before more is read.
     pub(crate) fn next_line(&mut self, out: &mut Output<'_, impl Print>) -> Option<&[u8]> {
         let n = match self.step_len() {
             Some(n) => n,

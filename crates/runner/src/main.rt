@@ -31,8 +31,8 @@ fn play_named(rt: &(impl Files + Input + Print + Eprint), name: &[u8]) {
     }
 }
 
-// Plays the input that an argument names, or says why there is no such name. std's `args` needs an allocator, so the name is read into a
-// buffer.
+// Plays the input that an argument names, or says why there is no such name. std's `args` needs an allocator, and there
+// is no heap here.
 fn play_argument(rt: &(impl Env + Files + Input + Print + Eprint), i: usize) {
     let mut name = [0; 4096];
     match rt.arg(i, &mut name) {

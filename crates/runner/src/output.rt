@@ -1,21 +1,17 @@
-// Answers, collected in a buffer and written to standard output when it is full. std's `BufWriter` needs an allocator, and a rule here is
-// that there is no heap.
-ghost use Rattle.std.specs.Prelude.{◌≡◌, ◌≤◌};
-ghost use Rattle.runner.specs.declared.output.TheConstants.{SIZE};
+// Answers, collected in a buffer and written to standard output when it is full.
+ghost use Rattle.std.specs.Prelude.{◌≡◌};
+ghost use Rattle.arrayvec.specs.ArrayVec.{array_vec_len};
 
+use arrayvec::ArrayVec;
 use script::{Reply, Stage};
 use std::fmt;
 use std::fmt::Write;
 
-const SIZE: usize = 4096;
-
-// Standard output, and a buffer whose `used` first bytes wait to be written.
+// Standard output, and the bytes that wait to be written. std's `BufWriter` needs an allocator, and there is no heap here.
 #[derive(Drop)]
 pub(crate) struct Output<'a, P: Print> {
     rt: &'a P,
-    buf: [u8; SIZE],
-    used: usize,
-    ghost within: { used ≤ SIZE },
+    waiting: ArrayVec<u8, 4096>,
 }
 
 impl<P: Print> Write for Output<'_, P> {
@@ -31,26 +27,24 @@ impl<'a, P: Print> Output<'a, P> {
     pub(crate) fn new(rt: &'a P) -> Output<'a, P> {
         Output {
             rt,
-            buf: [0; SIZE],
-            used: 0,
+            waiting: ArrayVec::new(),
         }
     }
 
     // Writes all that waits. A write that fails is passed over.
     pub(crate) fn flush(&mut self)
-        ensures { self.new.used ≡ 0 }
+        ensures { array_vec_len self.new.waiting ≡ 0 }
     {
-        let _ = self.rt.write_all(&self.buf[..self.used]);
-        self.used = 0;
+        let _ = self.rt.write_all(self.waiting.as_slice());
+        self.waiting.clear();
     }
 
     // Puts a byte, once all that waits is written where the buffer is full.
     fn put(&mut self, byte: u8) {
-        if self.used == SIZE {
+        if self.waiting.is_full() {
             self.flush();
         }
-        self.buf[self.used] = byte;
-        self.used += 1;
+        self.waiting.push(byte);
     }
 
     // Puts a step's number and its answer, a line.

@@ -34,8 +34,8 @@ fn play_lines(input: &mut Input<impl Read + Drop>, out: &mut Output<'_, impl Pri
     play_steps(input, out, head, opened.stage)
 }
 
-// Reads the head. One with 2,000 entries has at most 58,918 bytes, so where no line of the first 65,536 bytes is `run` the input is
-// malformed.
+// Reads the head. One with 2,000 entries has at most 58,918 bytes, so where no line of the first 65,536 bytes is `run`
+// the input is malformed.
 fn read_head<'a>(
     input: &mut Input<impl Read + Drop>,
     numbers: &'a mut [u32; 8000],
@@ -55,8 +55,8 @@ fn read_head<'a>(
     Some(Head { count, journal })
 }
 
-// Plays the steps after the head, one line after another. A proved loop has to end, and nothing says that an input does, so it counts the
-// steps, up to a number that no run comes to.
+// Plays the steps after the head, one line after another. A proved loop has to end, and nothing says that an input does,
+// so it counts the steps, up to a number that no run comes to.
 fn play_steps(
     input: &mut Input<impl Read + Drop>,
     out: &mut Output<'_, impl Print>,
