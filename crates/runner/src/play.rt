@@ -1,5 +1,5 @@
 // One input, from its first line to its last: the head is read whole, then one step after another is played.
-use crate::input::{Input, find_lf};
+use crate::input::{Lines, find_lf};
 use crate::output::Output;
 use journal_text::Reading;
 use script::Stage;
@@ -15,32 +15,32 @@ struct Head<'a> {
 
 // Plays an input and writes the answers to standard output, and then `bad` where a line is malformed.
 pub(crate) fn play(rt: &impl Print, reader: impl Read + Drop) {
-    let mut input = Input::new(reader);
+    let mut lines = Lines::new(reader);
     let mut out = Output::new(rt);
-    if play_lines(&mut input, &mut out).is_none() {
+    if play_lines(&mut lines, &mut out).is_none() {
         out.refuse();
     }
     out.flush();
 }
 
 // Plays the head and the steps. None where a line is malformed, or the journal has too many entries.
-fn play_lines(input: &mut Input<impl Read + Drop>, out: &mut Output<'_, impl Print>) -> Option<()> {
+fn play_lines(lines: &mut Lines<impl Read + Drop>, out: &mut Output<'_, impl Print>) -> Option<()> {
     let mut numbers = [0; 8000];
-    let head = read_head(input, &mut numbers)?;
+    let head = read_head(lines, &mut numbers)?;
     let opened = Stage::open(head.journal, head.count);
     if !opened.ok {
         return None;
     }
-    play_steps(input, out, head, opened.stage)
+    play_steps(lines, out, head, opened.stage)
 }
 
 // Reads the head. One with 2,000 entries has at most 58,918 bytes, so where no line of the first 65,536 bytes is `run`
 // the input is malformed.
 fn read_head<'a>(
-    input: &mut Input<impl Read + Drop>,
+    lines: &mut Lines<impl Read + Drop>,
     numbers: &'a mut [u32; 8000],
 ) -> Option<Head<'a>> {
-    let head = input.head()?;
+    let head = lines.head()?;
     let lf = find_lf(head)?;
     let Windows::Count(count) = script_line::read_windows(&head[..lf]) else {
         return None;
@@ -58,13 +58,13 @@ fn read_head<'a>(
 // Plays the steps after the head, one line after another. A proved loop has to end, and nothing says that an input does,
 // so it counts the steps, up to a number that no run comes to.
 fn play_steps(
-    input: &mut Input<impl Read + Drop>,
+    lines: &mut Lines<impl Read + Drop>,
     out: &mut Output<'_, impl Print>,
     head: Head,
     mut stage: Stage,
 ) -> Option<()> {
     for number in 1..=u64::MAX {
-        let Some(line) = input.next_line(out) else {
+        let Some(line) = lines.next_line(out) else {
             break;
         };
         let StepLine::Step(step) = script_line::read_step(line) else {
@@ -74,7 +74,7 @@ fn play_steps(
         stage = stepped.stage;
         out.put_answer(number, stepped.reply);
     }
-    if !input.is_empty() {
+    if !lines.is_empty() {
         return None;
     }
     out.put_windows(&stage, head.count);
