@@ -13,7 +13,7 @@ const LONGEST: usize = 16;
 // An input, and a buffer whose bytes from `at` on and before `end` are read and not yet passed. std's `BufReader` needs an
 // allocator, and there is no heap here.
 #[derive(Drop)]
-pub(crate) struct Lines<R: Read + Drop> {
+pub(crate) struct Lines<R> {
     reader: R,
     buf: [u8; SIZE],
     at: usize,
@@ -29,7 +29,7 @@ pub(crate) fn find_lf(bytes: &[u8]) -> Option<usize>
     bytes.iter().position(|&byte| byte == b'\n')
 }
 
-impl<R: Read + Drop> Lines<R> {
+impl<R: Read> Lines<R> {
     pub(crate) fn new(reader: R) -> Lines<R> {
         Lines {
             reader,

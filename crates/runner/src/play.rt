@@ -24,7 +24,7 @@ pub(crate) fn play(rt: &impl Print, reader: impl Read + Drop) {
 }
 
 // Plays the head and the steps. None where a line is malformed, or the journal has too many entries.
-fn play_lines(lines: &mut Lines<impl Read + Drop>, out: &mut Output<'_, impl Print>) -> Option<()> {
+fn play_lines(lines: &mut Lines<impl Read>, out: &mut Output<'_, impl Print>) -> Option<()> {
     let mut numbers = [0; 8000];
     let head = read_head(lines, &mut numbers)?;
     let opened = Stage::open(head.journal, head.count);
@@ -36,10 +36,7 @@ fn play_lines(lines: &mut Lines<impl Read + Drop>, out: &mut Output<'_, impl Pri
 
 // Reads the head. One with 2,000 entries has at most 58,918 bytes, so where no line of the first 65,536 bytes is `run`
 // the input is malformed.
-fn read_head<'a>(
-    lines: &mut Lines<impl Read + Drop>,
-    numbers: &'a mut [u32; 8000],
-) -> Option<Head<'a>> {
+fn read_head<'a>(lines: &mut Lines<impl Read>, numbers: &'a mut [u32; 8000]) -> Option<Head<'a>> {
     let head = lines.head()?;
     let lf = find_lf(head)?;
     let Windows::Count(count) = script_line::read_windows(&head[..lf]) else {
@@ -58,7 +55,7 @@ fn read_head<'a>(
 // Plays the steps after the head, one line after another. A proved loop has to end, and nothing says that an input does,
 // so it counts the steps, up to a number that no run comes to.
 fn play_steps(
-    lines: &mut Lines<impl Read + Drop>,
+    lines: &mut Lines<impl Read>,
     out: &mut Output<'_, impl Print>,
     head: Head,
     mut stage: Stage,
