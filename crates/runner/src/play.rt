@@ -1,9 +1,7 @@
 // One input, from its first line to its last: the head is read whole, then one step after another is played.
 use crate::input::{Lines, find_lf};
 use crate::output::Output;
-use journal_text::Reading;
 use script::Stage;
-use script_line::{StepLine, Windows};
 use std::io::Read;
 
 // What the head of an input says: the number of windows, and the journal.
@@ -39,12 +37,8 @@ fn play_lines(lines: &mut Lines<impl Read>, out: &mut Output<'_, impl Print>) ->
 fn read_head<'a>(lines: &mut Lines<impl Read>, numbers: &'a mut [u32; 8000]) -> Option<Head<'a>> {
     let head = lines.head()?;
     let lf = find_lf(head)?;
-    let Windows::Count(count) = script_line::read_windows(&head[..lf]) else {
-        return None;
-    };
-    let Reading::Entries(n) = journal_text::read(&head[lf + 1..], numbers) else {
-        return None;
-    };
+    let count = script_line::read_windows(&head[..lf])?;
+    let n = journal_text::read(&head[lf + 1..], numbers).ok()?;
     if 2000 < n {
         return None;
     }
@@ -64,10 +58,7 @@ fn play_steps(
         let Some(line) = lines.next_line(out) else {
             break;
         };
-        let StepLine::Step(step) = script_line::read_step(line) else {
-            return None;
-        };
-        let stepped = stage.step(head.journal, step);
+        let stepped = stage.step(head.journal, script_line::read_step(line)?);
         stage = stepped.stage;
         out.put_answer(number, stepped.reply);
     }
