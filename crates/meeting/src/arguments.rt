@@ -1,7 +1,6 @@
 // The program's arguments: numbers within bounds.
 ghost use Rattle.std.specs.Prelude.{◌≤◌};
 
-use decimal::Numeral;
 use std::env::{Env, FillError};
 
 // What an argument says: a number, or 0 with `ok` false where it is not the number that is asked for.
@@ -17,7 +16,7 @@ pub(crate) fn number(rt: &impl Env, i: usize, least: u32, most: u32) -> Argument
 {
     let mut text = [0u8; 4096];
     let length = rt.arg(i, &mut text).unwrap_or(0);
-    if let Numeral::Number(number, next) = decimal::read(&text[..length], 0, most) {
+    if let Some((number, next)) = decimal::read(&text[..length], 0, most) {
         if next == length && least <= number && number <= most {
             return Argument { ok: true, number };
         }

@@ -7,7 +7,7 @@ use journal::Index;
 use player::Player;
 use record::Record;
 use rules::{Settings, Term};
-use window::{Answer, Condition};
+use window::{Condition, Refusal};
 
 // More turns than serving a window takes. A proved loop has to end, so it counts its turns up to a number that no run
 // comes to.
@@ -88,7 +88,7 @@ impl Host {
             let head = window.head;
             let answer = sent.answer;
             tally = tally.sent(answer);
-            if let Answer::NothingReady = answer {
+            if let Err(Refusal::NothingReady) = answer {
                 let condition = head.condition;
                 let Condition::Fetching { next, end: _ } = condition else {
                     break;

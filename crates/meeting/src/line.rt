@@ -29,9 +29,8 @@ fn take_batch(before: Record, output: &[u32; 160], sent: Index, counted: Tally) 
         let at = entry * 5;
         let end = at + 5;
         let taken = record::take_by_value(record, &numbers[at..end]);
-        record = taken.record;
-        let answer = taken.answer;
-        tally = tally.taken(answer);
+        tally = tally.taken(&taken);
+        record = taken.unwrap_or(record);
         if numbers[at] == sent.0 {
             break;
         }
@@ -75,8 +74,7 @@ pub(crate) fn lose(
 ) -> BatchLeft {
     let numbers = &output[..];
     let taken = record::take_by_value(record, &numbers[0..5]);
-    let take = taken.answer;
-    let kept = taken.record;
+    let kept = taken.unwrap_or(record);
     let dropped = operations::drop_on(player, journal, w);
     let drop = dropped.answer;
     let joined = operations::join_on(dropped.player, journal, w, kept.last);
@@ -85,6 +83,6 @@ pub(crate) fn lose(
     BatchLeft {
         player: next,
         record: kept,
-        tally: tally.taken(take).after(drop).after(join),
+        tally: tally.taken(&taken).after(drop).after(join),
     }
 }

@@ -1,5 +1,6 @@
 // What a host counts: its calls and its batches.
-use window::Answer;
+use record::Record;
+use window::{Answer, Refusal};
 
 // How many calls were made, how many batches were sent, and the number of the first answer that is a refusal, or 0.
 #[derive(Clone, Copy)]
@@ -30,23 +31,23 @@ impl Tally {
 
     // After one more call of the player.
     pub(crate) fn after(self, answer: Answer) -> Tally {
-        self.called(answer.number())
+        self.called(window::number(answer))
     }
 
     // After one more Take.
-    pub(crate) fn taken(self, answer: record::Answer) -> Tally {
-        self.called(answer.number())
+    pub(crate) fn taken(self, answer: &Result<Record, record::Refusal>) -> Tally {
+        self.called(record::number(answer))
     }
 
     // After one more Send. That nothing is ready is no refusal here.
     pub(crate) fn sent(mut self, answer: Answer) -> Tally {
         match answer {
-            Answer::Done => {
+            Ok(()) => {
                 self.batches = std::num::wrapping_add_u64(self.batches, 1);
                 self.called(0)
             }
-            Answer::NothingReady => self.called(0),
-            _ => self.after(answer),
+            Err(Refusal::NothingReady) => self.called(0),
+            Err(_) => self.after(answer),
         }
     }
 

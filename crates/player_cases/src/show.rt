@@ -27,7 +27,7 @@ fn value(rt: &impl Print, n: u32) -> io::Result<()> {
 }
 
 pub(crate) fn answer(rt: &impl Print, given: Answer) -> io::Result<()> {
-    value(rt, given.number())
+    value(rt, window::number(given))
 }
 
 // Where the last fifteen of n numbers begin, or 0 where there are fewer.
