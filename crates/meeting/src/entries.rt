@@ -1,5 +1,4 @@
 // The journal of a meeting, made by rule.
-ghost use Rattle.std.specs.Prelude.{◌*◌, ◌≤◌, length};
 
 // The windows that entry i is for: window w, unless i + w is a multiple of 4.
 fn set_of(i: u32) -> u32 {
@@ -12,14 +11,10 @@ fn set_of(i: u32) -> u32 {
 }
 
 // Makes so many entries, four numbers each. Kinds and races take turns, and the value of entry i is i.
-pub(crate) fn fill(numbers: &mut [u32], count: u32)
-    requires { count * 4 ≤ length numbers.old }
-{
-    for place in 0..count {
-        let at = place as usize * 4;
-        numbers[at] = set_of(place + 1);
-        numbers[at + 1] = 1 + place % 4;
-        numbers[at + 2] = 1 + place % 12;
-        numbers[at + 3] = place + 1;
+pub(crate) fn fill(numbers: &mut [u32], count: u32) {
+    let (entries, _) = numbers.as_chunks_mut::<4>();
+    for (place, entry) in (0..count).zip(entries) {
+        let i = place.wrapping_add(1);
+        *entry = [set_of(i), 1 + place % 4, 1 + place % 12, i];
     }
 }

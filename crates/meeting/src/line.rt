@@ -1,90 +1,48 @@
 // What becomes of a batch on a window's line: the window takes it whole, or the line drops.
-use crate::tally::Tally;
+ghost use Rattle.std.specs.Prelude.{◌<◌};
+
+use crate::host::Host;
 use journal::Index;
-use player::Player;
-use record::Record;
 use window::Head;
 
-// What a batch leaves: the player, the window's record and what the host counts.
-#[derive(Clone, Copy)]
-pub(crate) struct BatchLeft {
-    pub(crate) player: Player,
-    pub(crate) record: Record,
-    pub(crate) tally: Tally,
-}
+impl Host<'_> {
+    // Window w takes an entry, five numbers.
+    fn take(&mut self, w: u32, entry: &[u32])
+        requires { w < 16 }
+    {
+        let taken = record::take(&mut self.records[w as usize], entry);
+        self.tally.called(taken.err());
+    }
 
-// What taking a batch leaves: the window's record and what the host counts.
-#[derive(Clone, Copy)]
-struct RecordLeft {
-    record: Record,
-    tally: Tally,
-}
-
-// Takes each entry of a batch, five numbers of the output. The last entry is the one at the index that was sent.
-fn take_batch(before: Record, output: &[u32; 160], sent: Index, counted: Tally) -> RecordLeft {
-    let numbers = &output[..];
-    let mut record = before;
-    let mut tally = counted;
-    for entry in 0..32 {
-        let at = entry * 5;
-        let end = at + 5;
-        let taken = record::take_by_value(record, &numbers[at..end]);
-        record = taken.record;
-        let answer = taken.answer;
-        tally = tally.taken(answer);
-        if numbers[at] == sent.0 {
-            break;
+    // Takes each entry of a batch, five numbers of the output. The last entry is the one at the index that was sent.
+    fn take_batch(&mut self, w: u32, output: &[u32; 160], sent: Index)
+        requires { w < 16 }
+    {
+        for entry in output.chunks_exact(5) {
+            self.take(w, entry);
+            if entry[0] == sent.0 {
+                break;
+            }
         }
     }
-    RecordLeft { record, tally }
-}
 
-// The batch is written to the line, and the window takes and acknowledges it.
-pub(crate) fn deliver(
-    player: Player,
-    journal: &[u32],
-    w: u32,
-    head: Head,
-    output: &[u32; 160],
-    record: Record,
-    tally: Tally,
-) -> BatchLeft {
-    let written = operations::written_on(player, journal, w, head.term);
-    let write = written.answer;
-    let taken = take_batch(record, output, head.sent, tally.after(write));
-    let kept = taken.record;
-    let acked = operations::ack_on(written.player, journal, w, head.term, head.sent);
-    let ack = acked.answer;
-    let next = acked.player;
-    BatchLeft {
-        player: next,
-        record: kept,
-        tally: taken.tally.after(ack),
+    // The batch is written to the line, and the window takes and acknowledges it.
+    pub(crate) fn deliver(&mut self, w: u32, head: Head, output: &[u32; 160])
+        requires { w < 16 }
+    {
+        self.played(operations::written_on(self.player, self.journal, w, head.term));
+        self.take_batch(w, output, head.sent);
+        self.played(operations::ack_on(self.player, self.journal, w, head.term, head.sent));
     }
-}
 
-// The line drops when the window has taken the first entry of the batch, and the window joins again with its last
-// index.
-pub(crate) fn lose(
-    player: Player,
-    journal: &[u32],
-    w: u32,
-    output: &[u32; 160],
-    record: Record,
-    tally: Tally,
-) -> BatchLeft {
-    let numbers = &output[..];
-    let taken = record::take_by_value(record, &numbers[0..5]);
-    let take = taken.answer;
-    let kept = taken.record;
-    let dropped = operations::drop_on(player, journal, w);
-    let drop = dropped.answer;
-    let joined = operations::join_on(dropped.player, journal, w, kept.last);
-    let join = joined.answer;
-    let next = joined.player;
-    BatchLeft {
-        player: next,
-        record: kept,
-        tally: tally.taken(take).after(drop).after(join),
+    // The line drops when the window has taken the first entry of the batch, and the window joins again with its last
+    // index.
+    pub(crate) fn lose(&mut self, w: u32, output: &[u32; 160])
+        requires { w < 16 }
+    {
+        self.take(w, &output[..5]);
+        self.played(operations::drop_on(self.player, self.journal, w));
+        let report = self.records[w as usize].last;
+        self.played(operations::join_on(self.player, self.journal, w, report));
     }
 }

@@ -22,27 +22,24 @@ fn play(rt: &impl Print, windows: u32, entries: u32, limit: u32) -> io::Result<(
 {
     let mut numbers = [0; 262140];
     entries::fill(&mut numbers, entries);
-    let size = entries as usize * 4;
-    let journal = &numbers[0..size];
-    let host = Host::start(journal, windows, limit);
-    let end = host.play(journal, entries, limit);
-    let tally = end.tally;
-    if tally.refused == 0 {
-        let records = end.records;
-        output::windows(rt, records, windows)?;
-    } else {
-        output::line(rt, b"refused ", tally.refused)?;
+    let journal = &numbers[..entries as usize * 4];
+    let mut host = Host::start(journal, entries, windows, limit);
+    host.play();
+    match host.tally.refused {
+        None => output::windows(rt, &host.records[..windows as usize])?,
+        Some(number) => println!(rt; "refused {number}")?,
     }
-    output::line(rt, b"calls ", tally.calls)
+    println!(rt; "calls {}", host.tally.calls)
 }
 
 fn main(rt: HostRuntime) -> io::Result<()> {
     let windows = arguments::number(&rt, 1, 1, 16);
     let entries = arguments::number(&rt, 2, 0, 65535);
     let limit = arguments::number(&rt, 3, 1, 32);
-    if !arguments::has(&rt, 4) && windows.ok && entries.ok && limit.ok {
-        play(&rt, windows.number, entries.number, limit.number)
-    } else {
-        output::usage(&rt)
+    match (windows, entries, limit) {
+        (Some(windows), Some(entries), Some(limit)) if !arguments::has(&rt, 4) => {
+            play(&rt, windows, entries, limit)
+        }
+        _ => output::usage(&rt),
     }
 }

@@ -1,53 +1,31 @@
 // What a host counts: its calls and its batches.
-use window::Answer;
+use window::{Answer, Refusal};
 
-// How many calls were made, how many batches were sent, and the number of the first answer that is a refusal, or 0.
-#[derive(Clone, Copy)]
+// How many calls were made, how many batches were sent, and the papers' number of the first refusal.
+#[derive(Clone, Copy, Default)]
 pub(crate) struct Tally {
     pub(crate) calls: u64,
-    pub(crate) batches: u64,
-    pub(crate) refused: u64,
+    batches: u64,
+    pub(crate) refused: Option<u32>,
 }
 
 impl Tally {
-    // Nothing yet.
-    pub(crate) fn new() -> Tally {
-        Tally {
-            calls: 0,
-            batches: 0,
-            refused: 0,
+    // Counts one more call, and its refusal if it is the first.
+    pub(crate) fn called<R: Into<u32>>(&mut self, refusal: Option<R>) {
+        self.calls = self.calls.wrapping_add(1);
+        self.refused = self.refused.or(refusal.map(R::into));
+    }
+
+    // Counts one more Send. That nothing is ready is no refusal here.
+    pub(crate) fn sent(&mut self, answer: Answer) {
+        if answer.is_ok() {
+            self.batches = self.batches.wrapping_add(1);
         }
-    }
-
-    // After one more call, with the number that it was answered.
-    fn called(mut self, number: u32) -> Tally {
-        self.calls = std::num::wrapping_add_u64(self.calls, 1);
-        if self.refused == 0 {
-            self.refused = number as u64;
-        }
-        self
-    }
-
-    // After one more call of the player.
-    pub(crate) fn after(self, answer: Answer) -> Tally {
-        self.called(answer.number())
-    }
-
-    // After one more Take.
-    pub(crate) fn taken(self, answer: record::Answer) -> Tally {
-        self.called(answer.number())
-    }
-
-    // After one more Send. That nothing is ready is no refusal here.
-    pub(crate) fn sent(mut self, answer: Answer) -> Tally {
-        match answer {
-            Answer::Done => {
-                self.batches = std::num::wrapping_add_u64(self.batches, 1);
-                self.called(0)
-            }
-            Answer::NothingReady => self.called(0),
-            _ => self.after(answer),
-        }
+        self.called(
+            answer
+                .err()
+                .filter(|&refusal| refusal != Refusal::NothingReady),
+        );
     }
 
     // Whether the line of the batch that was sent last is dropped, as that of every fifth is.

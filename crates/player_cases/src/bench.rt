@@ -1,7 +1,7 @@
 // What stands between two bytes of the input, and what each byte does to it.
 use crate::line::Line;
 use crate::state::State;
-use crate::{ask, line, show, state};
+use crate::{ask, show};
 use std::io;
 
 // The state at which a line starts, that of the case, and the line so far.
@@ -12,40 +12,34 @@ pub(crate) struct Bench {
     line: Line,
 }
 
-// At the first byte.
-pub(crate) fn first() -> Bench {
-    let state = state::first();
-    Bench {
-        start: state,
-        state,
-        line: line::fresh(true),
+impl Bench {
+    // At the first byte.
+    pub(crate) fn new() -> Bench {
+        Bench {
+            start: State::new(),
+            state: State::new(),
+            line: Line::fresh(true),
+        }
     }
-}
 
-// The state after one more byte, of which a letter can change it.
-fn after(rt: &impl Print, bench: Bench, zeros: &[u32], byte: u8) -> io::Result<State> {
-    let n = bench.line;
-    if n.naming || byte == b'\n' {
-        show::byte(rt, byte)?;
-        return Ok(bench.start);
+    // The state after one more byte, of which a letter can change it.
+    fn after(self, rt: &impl Print, zeros: &[u32], byte: u8) -> io::Result<State> {
+        if self.line.naming || byte == b'\n' {
+            show::byte(rt, byte)?;
+            return Ok(self.start);
+        }
+        let numbers = self.line.numbers;
+        let asked = ask::letter(rt, self.state, zeros, numbers, byte)?;
+        Ok(asked.set(numbers, byte))
     }
-    let state = bench.state;
-    let asked = ask::letter(rt, state, zeros, n, byte)?;
-    Ok(state::set(asked, n, byte))
-}
 
-// The bench after one more byte.
-pub(crate) fn feed(rt: &impl Print, bench: Bench, zeros: &[u32], byte: u8) -> io::Result<Bench> {
-    let n = bench.line;
-    let line = n.fed(byte);
-    let state = after(rt, bench, zeros, byte)?;
-    if byte == b'=' {
-        return Ok(Bench {
-            start: state,
+    // The bench after one more byte.
+    pub(crate) fn feed(self, rt: &impl Print, zeros: &[u32], byte: u8) -> io::Result<Bench> {
+        let state = self.after(rt, zeros, byte)?;
+        Ok(Bench {
+            start: if byte == b'=' { state } else { self.start },
             state,
-            line,
-        });
+            line: self.line.fed(byte),
+        })
     }
-    let start = bench.start;
-    Ok(Bench { start, state, line })
 }

@@ -27,37 +27,26 @@
 mod ask;
 mod bench;
 mod line;
-mod numbers;
 mod show;
 mod state;
 mod windows;
 
-ghost use Rattle.std.specs.Prelude.{◌≡◌, length};
-
+use bench::Bench;
 use std::io;
 use std::io::Read;
 
-// Room for 65,536 entries.
-fn zeros() -> [u32; 262144]
-    ensures { 262144 ≡ length result }
-{
-    [0; 262144]
-}
-
-// Plays the bytes of the cases, one after another.
-fn play(rt: &impl Print, text: &[u8], zeros: &[u32]) -> io::Result<()> {
-    let mut bench = bench::first();
-    let mut i = 0;
-    while i < text.len() {
-        bench = bench::feed(rt, bench, zeros, text[i])?;
-        i += 1;
+// Plays the bytes of the cases, one after another. The letter Z has room for 65,536 entries of zeros.
+fn play(rt: &impl Print, text: &[u8]) -> io::Result<()> {
+    let zeros = [0; 262144];
+    let mut bench = Bench::new();
+    for &byte in text {
+        bench = bench.feed(rt, &zeros, byte)?;
     }
     Ok(())
 }
 
 fn main(rt: HostRuntime) -> io::Result<()> {
-    let zeros = zeros();
     let mut text = Vec::new(rt.alloc());
     rt.reader().take(65536).read_to_end(&mut text)?;
-    play(&rt, &text, &zeros)
+    play(&rt, &text)
 }

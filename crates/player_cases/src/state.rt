@@ -1,10 +1,13 @@
 // States made by hand.
-use crate::line::Line;
-use crate::numbers::Numbers;
 use crate::windows;
 use journal::Index;
 use player::Player;
+use queue::Row;
+use rules::Term;
 use window::Window;
+
+// Numbers of any size that a call is lent: those of a journal, or reports.
+type Numbers = Row<u32, 128>;
 
 // The player, the numbers of the journal, the reports and the first term for Start, and the place of the window that
 // letters change.
@@ -13,142 +16,98 @@ pub(crate) struct State {
     pub(crate) player: Player,
     pub(crate) journal: Numbers,
     pub(crate) reports: Numbers,
-    pub(crate) first: u32,
+    pub(crate) first: Term,
     pub(crate) place: usize,
-}
-
-// Two idle windows, the batch limit 2, the spacing 65,535 and `current` 4, over no journal yet.
-pub(crate) fn first() -> State {
-    let player = Player {
-        count: 2,
-        limit: 2,
-        spacing: 65535,
-        current: Index(4),
-        windows: [windows::idle(); 16],
-    };
-    State {
-        player,
-        journal: Numbers::none(),
-        reports: Numbers::none(),
-        first: 1,
-        place: 0,
-    }
 }
 
 // A player's window in a place, counted round from 16 on.
 pub(crate) fn window_of(player: Player, place: usize) -> Window {
-    let windows = player.windows;
-    let at = place % 16;
-    windows[at]
+    player.windows[place % 16]
 }
 
 impl State {
-    // The window that letters change.
-    pub(crate) fn window(self) -> Window {
-        let player = self.player;
-        window_of(player, self.place)
+    // Two idle windows, the batch limit 2, the spacing 65,535 and `current` 4, over no journal yet.
+    pub(crate) fn new() -> State {
+        State {
+            player: Player {
+                count: 2,
+                limit: 2,
+                spacing: 65535,
+                current: Index(4),
+                windows: [windows::idle(); 16],
+            },
+            journal: Numbers::new(),
+            reports: Numbers::new(),
+            first: Term(1),
+            place: 0,
+        }
     }
 
-    pub(crate) fn with(mut self, player: Player) -> State {
-        self.player = player;
-        self
+    // The window that letters change.
+    pub(crate) fn window(self) -> Window {
+        window_of(self.player, self.place)
     }
 
     // The player with another window in the place of that one.
     pub(crate) fn put(self, window: Window) -> Player {
         let mut player = self.player;
-        let at = self.place % 16;
-        player.windows[at] = window;
+        player.windows[self.place % 16] = window;
         player
     }
-}
 
-// The windows that a letter makes of a state's.
-fn windows(s: State, n: Line, letter: u8) -> [Window; 16] {
-    let player = s.player;
-    let mut windows = player.windows;
-    let at = s.place % 16;
-    if letter == b'i' {
-        return [windows[at]; 16];
+    // The player that a letter makes of the state's.
+    fn player(self, numbers: [u32; 4], letter: u8) -> Player {
+        let [_, b, c, d] = numbers;
+        match letter {
+            b'o' => Player {
+                count: b,
+                limit: c,
+                current: Index(d),
+                ..self.player
+            },
+            b'x' => Player {
+                spacing: d,
+                ..self.player
+            },
+            b'i' => Player {
+                windows: [self.window(); 16],
+                ..self.player
+            },
+            _ => self.put(windows::set(self.window(), numbers, letter)),
+        }
     }
-    windows[at] = windows::set(windows[at], n, letter);
-    windows
-}
 
-// The spacing that a letter makes of one.
-fn spacing(held: u32, n: Line, letter: u8) -> u32 {
-    if letter == b'x' { n.d } else { held }
-}
-
-// The player that a letter makes of a state's.
-fn player(s: State, n: Line, letter: u8) -> Player {
-    let player = s.player;
-    let windows = windows(s, n, letter);
-    if letter == b'o' {
-        return Player {
-            count: n.b,
-            limit: n.c,
-            spacing: player.spacing,
-            current: Index(n.d),
-            windows,
-        };
-    }
-    let current = player.current;
-    Player {
-        count: player.count,
-        limit: player.limit,
-        spacing: spacing(player.spacing, n, letter),
-        current,
-        windows,
-    }
-}
-
-// The journal that a letter makes of one.
-fn journal(mut held: Numbers, n: Line, letter: u8) -> Numbers {
-    if letter == b'v' {
-        return held.with(n.a).with(n.b).with(n.c).with(n.d);
-    }
-    if letter == b'j' {
-        held.len = n.d as usize;
-    }
-    held
-}
-
-// The reports that a letter makes of some.
-fn reports(told: Numbers, n: Line, letter: u8) -> Numbers {
-    if letter == b'r' {
-        return told.with(n.d);
-    }
-    told
-}
-
-// The first term that a letter makes of one.
-fn first_term(given: u32, n: Line, letter: u8) -> u32 {
-    if letter == b'y' { n.d } else { given }
-}
-
-// The state that a letter makes of a state.
-pub(crate) fn set(s: State, n: Line, letter: u8) -> State {
-    let read = s.journal;
-    let told = s.reports;
-    let player = player(s, n, letter);
-    let journal = journal(read, n, letter);
-    let reports = reports(told, n, letter);
-    let first = first_term(s.first, n, letter);
-    if letter == b't' {
-        return State {
-            player,
-            journal,
-            reports,
-            first,
-            place: n.d as usize,
-        };
-    }
-    State {
-        player,
-        journal,
-        reports,
-        first,
-        place: s.place,
+    // The state that a letter makes of this one.
+    pub(crate) fn set(self, numbers: [u32; 4], letter: u8) -> State {
+        let [a, b, c, d] = numbers;
+        match letter {
+            b'v' => State {
+                journal: self.journal.push(a).push(b).push(c).push(d),
+                ..self
+            },
+            b'j' => State {
+                journal: Numbers {
+                    len: d as usize,
+                    ..self.journal
+                },
+                ..self
+            },
+            b'r' => State {
+                reports: self.reports.push(d),
+                ..self
+            },
+            b'y' => State {
+                first: Term(d),
+                ..self
+            },
+            b't' => State {
+                place: d as usize,
+                ..self
+            },
+            _ => State {
+                player: self.player(numbers, letter),
+                ..self
+            },
+        }
     }
 }

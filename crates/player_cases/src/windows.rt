@@ -1,7 +1,6 @@
 // Windows made by hand.
-use crate::line::Line;
 use journal::Index;
-use queue::{Batches, Queue};
+use queue::{Cell, Row};
 use rules::Term;
 use window::{Condition, Head, Window};
 
@@ -10,88 +9,76 @@ pub(crate) fn idle() -> Window {
     Window::started(Term(7), Index(0))
 }
 
-// What a letter makes of a queue: `all` an index in every cell, `more` one more index.
-fn queue(q: Queue, n: Line, letter: u8, all: u8, more: u8) -> Queue {
-    if letter == all {
-        let one = Queue::new().push(n.c);
-        let cell = one.cells[0];
-        let cells = [cell; 128];
-        return Queue {
-            cells,
-            len: n.d as usize,
-        };
-    }
-    if letter == more {
-        return q.push(n.d);
-    }
-    q
-}
-
-// What a letter makes of unacknowledged batches.
-fn batches(b: Batches, n: Line, letter: u8) -> Batches {
-    match letter {
-        b'b' => Batches {
-            cells: [n.c; 8],
-            len: n.d as usize,
-        },
-        b'u' => b.push(n.d),
-        _ => b,
-    }
-}
-
-// What a letter makes of a condition.
-fn condition(now: Condition, n: Line, letter: u8) -> Condition {
-    match letter {
-        b'f' => Condition::Fetching {
-            next: Index(n.c),
-            end: Index(n.d),
-        },
-        b'e' => Condition::Completed { end: Index(n.d) },
-        b's' => Condition::Suspended,
-        _ => now,
+// A row with the number in every cell, or 0 where no cell can hold it, and any length.
+fn filled<C: Cell, const N: usize>(number: u32, len: u32) -> Row<C, N> {
+    Row {
+        cells: [C::holding(number).unwrap_or(C::NONE); N],
+        len: len as usize,
     }
 }
 
 // What a letter makes of a head.
-fn head(before: Head, n: Line, letter: u8) -> Head {
-    let out = before.batches;
-    let now = before.condition;
-    let batches = batches(out, n, letter);
-    let condition = condition(now, n, letter);
-    if letter == b'l' {
-        return Head {
-            term: Term(n.a),
-            acked: Index(n.b),
-            sent: Index(n.c),
-            busy: n.d == 1,
-            batches,
-            condition,
-        };
-    }
-    let term = before.term;
-    let acked = before.acked;
-    let sent = before.sent;
-    Head {
-        term,
-        acked,
-        sent,
-        busy: before.busy,
-        batches,
-        condition,
+fn head(before: Head, numbers: [u32; 4], letter: u8) -> Head {
+    let [a, b, c, d] = numbers;
+    match letter {
+        b'l' => Head {
+            term: Term(a),
+            acked: Index(b),
+            sent: Index(c),
+            busy: d == 1,
+            ..before
+        },
+        b'f' => Head {
+            condition: Condition::Fetching {
+                next: Index(c),
+                end: Index(d),
+            },
+            ..before
+        },
+        b'e' => Head {
+            condition: Condition::Completed { end: Index(d) },
+            ..before
+        },
+        b's' => Head {
+            condition: Condition::Suspended,
+            ..before
+        },
+        b'b' => Head {
+            batches: filled(c, d),
+            ..before
+        },
+        b'u' => Head {
+            batches: before.batches.push(d),
+            ..before
+        },
+        _ => before,
     }
 }
 
 // The window that a letter makes of a window.
-pub(crate) fn set(w: Window, n: Line, letter: u8) -> Window {
-    if letter == b'h' {
-        return idle();
-    }
-    let before = w.head;
-    let normal = w.normal;
-    let catch_up = w.catch_up;
-    Window {
-        head: head(before, n, letter),
-        normal: queue(normal, n, letter, b'n', b'p'),
-        catch_up: queue(catch_up, n, letter, b'g', b'q'),
+pub(crate) fn set(window: Window, numbers: [u32; 4], letter: u8) -> Window {
+    let [_, _, c, d] = numbers;
+    match letter {
+        b'h' => idle(),
+        b'n' => Window {
+            normal: filled(c, d),
+            ..window
+        },
+        b'p' => Window {
+            normal: window.normal.push(d),
+            ..window
+        },
+        b'g' => Window {
+            catch_up: filled(c, d),
+            ..window
+        },
+        b'q' => Window {
+            catch_up: window.catch_up.push(d),
+            ..window
+        },
+        _ => Window {
+            head: head(window.head, numbers, letter),
+            ..window
+        },
     }
 }
