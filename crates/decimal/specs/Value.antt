@@ -204,5 +204,22 @@ numeral-length-le =
           rw (numeral-step n h, length-append) (omega (arith, ih (suc k) (omega arith) (omega (arith, pow-suc 10 (suc k)))))
     ])
 
+ten_pow-pos : (k : ℕ) → 0 < 10 ^ k
+ten_pow-pos zero = omega arith
+ten_pow-pos (suc k) = omega (arith, pow-suc 10 k, ten_pow-pos k)
+
+-- and more than k where it is at least 10 ^ k
+pub numeral-length-gt : (n k : ℕ) → 10 ^ k ≤ n → k < length (numeral n)
+numeral-length-gt =
+    numeral-induction (λ (n : ℕ). (k : ℕ) → 10 ^ k ≤ n → k < length (numeral n))
+    (λ n h. elim [
+      | zero ↦ λ p. numeral-nonempty n
+      | suc k ↦ λ p. absurd (omega (arith, pow-suc 10 k, ten_pow-pos k))
+    ])
+    (λ n h ih. elim [
+      | zero ↦ λ p. numeral-nonempty n
+      | suc k ↦ λ p. rw (numeral-step n h, length-append) (omega (arith, ih k (omega (arith, pow-suc 10 k))))
+    ])
+
 pub numeral-length-u32 : (n : ℕ) → n < 2 ^ 32 → length (numeral n) ≤ 10
 numeral-length-u32 n h = numeral-length-le n 10 (omega arith) (omega arith)

@@ -1,83 +1,80 @@
 // One decimal numeral, read from a place of a text and written to a place of a buffer.
 #![tactic(auto)]
 
-ghost use Rattle.std.specs.Prelude.{◌-◌, ◌≤◌, ◌≡◌, [], length, drop, IfSome, IsNone};
-ghost use Rattle.decimal.specs.Numeral.{numeral, lead_digits, read_at, write_at, with_numeral};
-ghost use Rattle.decimal.specs.Digit.{DigitAt};
+ghost use Rattle.std.specs.Prelude.{◌+◌, ◌≤◌, ◌≡◌, length};
+ghost use Rattle.std.specs.List.{take_while};
+ghost use Rattle.decimal.specs.Numeral.{numeral, is_digit, lead_digits, canonical, read_at, write_at, with_numeral};
 
 // The numeral that stands at `at`, its number and the place after its last digit: all digits from there on, if they have no leading
 // zero but in `0` itself and their value is at most `bound`. Where no digit stands there, or `at` is past the end, there is none.
 pub fn read(text: &[u8], at: usize, bound: u32) -> Option<(u32, usize)>
     ensures { result ≡ read_at bound text.now at }
 {
-    let most = u64::from(bound);
+    let rest = text.get(at..)?;
+    let digits = &rest[..leading_digits(rest)];
+    if !is_canonical(digits) {
+        return None;
+    }
     let mut value: u64 = 0;
-    let mut i = at;
-    while let Some(d) = digit_at(text, i) {
-        value = value * 10 + d;
-        if most < value {
+    for digit in digits {
+        value = value * 10 + u64::from(digit - b'0');
+        if u64::from(bound) < value {
             return None;
         }
-        i += 1;
     }
-    match i - at {
-        0 => None,
-        1 => Some((value as u32, i)),
-        _ if text[at] == b'0' => None,
-        _ => Some((value as u32, i)),
-    }
+    Some((value as u32, at + digits.len()))
 }
 
-// The digit that stands at a place.
-fn digit_at(text: &[u8], at: usize) -> Option<u64>
-    ensures some { IfSome result (DigitAt text.now at) }
-    ensures none { IsNone result → lead_digits (drop at text.now) ≡ [] }
+// How many digits stand at the front of a text.
+fn leading_digits(text: &[u8]) -> usize
+    ensures { result ≡ length (take_while is_digit text.now) }
 {
-    let b = *text.get(at)?;
-    if b.is_ascii_digit() {
-        Some(u64::from(b - b'0'))
-    } else {
-        None
+    text.iter().take_while(|b| b.is_ascii_digit()).count()
+}
+
+// Whether digits are one digit, or several of which the first is not `0`.
+#[tactic(auto, unfolding(crate::specs::Numeral::canonical))]
+fn is_canonical(digits: &[u8]) -> bool
+    ensures { result ≡ canonical digits.now }
+{
+    match digits {
+        [] => false,
+        [_] => true,
+        [first, ..] => *first != b'0',
     }
 }
 
 // How many digits the numeral of `n` has.
+#[tactic(auto, using(crate::proofs::Writing::numeral_length_zero, crate::proofs::Writing::numeral_length_is))]
 pub fn digits(n: u32) -> usize
     ensures { result ≡ length (numeral n) }
 {
-    let mut count = 1;
-    let mut left = n;
-    while 10 <= left {
-        left /= 10;
-        count += 1;
-    }
-    count
+    n.checked_ilog10().unwrap_or(0) as usize + 1
 }
 
 // Writes the numeral of `n` at `at` and answers the place after it; where the buffer has no room for all of it, there is no such place,
 // and nothing is written.
+#[tactic(auto, using(crate::proofs::Writing::write_some, crate::proofs::Writing::write_none, crate::proofs::Writing::write_nothing))]
 pub fn write(n: u32, out: &mut [u8], at: usize) -> Option<usize>
     ensures { (result ≡ write_at n (length out.old) at) × (out.new ≡ with_numeral n out.old at) }
 {
-    let count = digits(n);
-    if out.len() < at || out.len() - at < count {
+    let end = at.checked_add(digits(n))?;
+    if out.len() < end {
         return None;
     }
-    fill(n, out, at + count);
-    Some(at + count)
+    fill(n, out, at, end);
+    Some(end)
 }
 
-// Puts the digits of `n` right before `end`, the last one first.
-fn fill(n: u32, out: &mut [u8], end: usize)
-    requires { (length (numeral n) ≤ end) × (end ≤ length out.old) }
-    ensures { out.new ≡ with_numeral n out.old (end - length (numeral n)) }
+// Puts the digits of `n` into the places from `at` to before `end`, the last one first.
+#[tactic(auto, using(crate::proofs::Writing::left_digit, crate::proofs::Writing::left_none))]
+fn fill(n: u32, out: &mut [u8], at: usize, end: usize)
+    requires { (end ≡ at + length (numeral n)) × (end ≤ length out.old) }
+    ensures { out.new ≡ with_numeral n out.old at }
 {
-    let mut i = end - 1;
     let mut rest = n;
-    while 10 <= rest {
+    for i in (at..end).rev() {
         out[i] = b'0' + (rest % 10) as u8;
         rest /= 10;
-        i -= 1;
     }
-    out[i] = b'0' + rest as u8;
 }

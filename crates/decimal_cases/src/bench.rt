@@ -1,153 +1,116 @@
 // What stands between two bytes of the input: the text and the numbers read so far; and what each byte does to them.
+ghost use Rattle.std.specs.Prelude.{◌≤◌};
+
 use crate::show;
 use std::io;
 
 // What the next byte belongs to.
 #[derive(Clone, Copy)]
-pub(crate) enum Part {
+enum Part {
     Label,
     Letters,
     Text,
 }
 
-// The text of a case, and its last three numbers, the oldest first.
+// The text of a case, and its last three numbers, the oldest first. The text is a buffer with its size, and no slice of the input, since
+// it may stand between several pairs of `<` and `>`.
 #[derive(Clone, Copy)]
 pub(crate) struct Bench {
     text: [u8; 64],
     size: usize,
+    ghost inside: { size ≤ 64 },
     oldest: u64,
     older: u64,
     number: u64,
     part: Part,
 }
 
-// At the start of a line.
-pub(crate) fn fresh() -> Bench {
-    Bench {
+// A number as 32 bits, or the largest of these.
+fn narrow(n: u64) -> u32 {
+    u32::try_from(n).unwrap_or(u32::MAX)
+}
+
+// The number with one more digit, where it is not too long.
+fn longer(n: u64, digit: u8) -> u64 {
+    if n < 1000000000000000 {
+        n * 10 + u64::from(digit)
+    } else {
+        n
+    }
+}
+
+impl Bench {
+    // At the start of a line.
+    pub(crate) const START: Bench = Bench {
         text: [0; 64],
         size: 0,
         oldest: 0,
         older: 0,
         number: 0,
         part: Part::Label,
-    }
-}
+    };
 
-// A number as 32 bits, or the largest of these.
-fn narrow(n: u64) -> u32 {
-    if n <= 4294967295 {
-        return n as u32;
-    }
-    4294967295
-}
-
-// The number with one more digit, where it is not too long.
-fn longer(n: u64, digit: u8) -> u64 {
-    if n < 1000000000000000 {
-        return n * 10 + (digit % 10) as u64;
-    }
-    n
-}
-
-impl Bench {
-    // At another part of the line.
-    fn at(self, part: Part) -> Bench {
-        let text = self.text;
-        Bench {
-            text,
-            size: self.size,
-            oldest: self.oldest,
-            older: self.older,
-            number: self.number,
-            part,
+    // One more byte of the text, where it has room.
+    fn store(&mut self, byte: u8) {
+        if self.size < 64 {
+            self.text[self.size] = byte;
+            self.size += 1;
         }
-    }
-
-    // With one more byte of the text, where it has room.
-    fn stored(mut self, byte: u8) -> Bench {
-        let size = self.size;
-        if size < 64 {
-            self.text[size] = byte;
-            self.size = size + 1;
-        }
-        self
-    }
-
-    // With another number.
-    fn with(mut self, number: u64) -> Bench {
-        self.number = number;
-        self
-    }
-
-    // With the numbers moved on by one.
-    fn moved(mut self) -> Bench {
-        self.oldest = self.older;
-        self.older = self.number;
-        self.number = 0;
-        self
     }
 
     // What a letter shows.
-    fn show(self, rt: &impl Print, letter: u8) -> io::Result<()> {
-        let text = self.text;
+    fn show(&self, rt: &impl Print, letter: u8) -> io::Result<()> {
         match letter {
             b'r' => show::read(
                 rt,
-                text,
-                self.size,
+                &self.text[..self.size],
                 self.older as usize,
                 narrow(self.number),
-            )?,
-            b'd' => show::digits(rt, narrow(self.number))?,
+            ),
+            b'd' => show::digits(rt, narrow(self.number)),
             b'w' => show::written(
                 rt,
                 narrow(self.oldest),
                 self.older as usize,
                 self.number as usize,
-            )?,
-            _ => {}
+            ),
+            _ => Ok(()),
+        }
+    }
+
+    // A byte that is none of the label's and none of the text's.
+    fn letter(&mut self, rt: &impl Print, byte: u8) -> io::Result<()> {
+        match byte {
+            b'0'..=b'9' => self.number = longer(self.number, byte - b'0'),
+            b' ' => {
+                self.oldest = self.older;
+                self.older = self.number;
+                self.number = 0;
+            }
+            b'M' => self.number = u64::MAX,
+            b'<' => self.part = Part::Text,
+            b'\n' => {
+                show::byte(rt, byte)?;
+                *self = Bench::START;
+            }
+            _ => self.show(rt, byte)?,
         }
         Ok(())
     }
 
-    // After a byte that is none of the label's and none of the text's.
-    fn letter(self, rt: &impl Print, byte: u8) -> io::Result<Bench> {
-        if b'0' <= byte && byte <= b'9' {
-            return Ok(self.with(longer(self.number, byte - b'0')));
-        }
-        Ok(match byte {
-            b' ' => self.moved(),
-            b'M' => self.with(u64::MAX),
-            b'<' => self.at(Part::Text),
-            b'\n' => {
+    // One more byte.
+    pub(crate) fn feed(&mut self, rt: &impl Print, byte: u8) -> io::Result<()> {
+        match self.part {
+            Part::Label => {
                 show::byte(rt, byte)?;
-                fresh()
+                if byte == b':' {
+                    self.part = Part::Letters;
+                }
             }
-            _ => {
-                self.show(rt, byte)?;
-                self
-            }
-        })
+            Part::Letters => self.letter(rt, byte)?,
+            Part::Text if byte == b'>' => self.part = Part::Letters,
+            Part::Text => self.store(byte),
+        }
+        Ok(())
     }
-}
-
-// The bench after one more byte.
-pub(crate) fn feed(rt: &impl Print, bench: Bench, byte: u8) -> io::Result<Bench> {
-    let part = bench.part;
-    Ok(match part {
-        Part::Label => {
-            show::byte(rt, byte)?;
-            if byte == b':' {
-                return Ok(bench.at(Part::Letters));
-            }
-            bench
-        }
-        Part::Letters => bench.letter(rt, byte)?,
-        Part::Text => {
-            if byte == b'>' {
-                return Ok(bench.at(Part::Letters));
-            }
-            bench.stored(byte)
-        }
-    })
 }

@@ -12,22 +12,16 @@
 mod bench;
 mod show;
 
+use bench::Bench;
 use std::io;
 use std::io::Read;
-
-// Plays the bytes of the cases, one after another.
-fn play(rt: &impl Print, text: &[u8]) -> io::Result<()> {
-    let mut bench = bench::fresh();
-    let mut i = 0;
-    while i < text.len() {
-        bench = bench::feed(rt, bench, text[i])?;
-        i += 1;
-    }
-    Ok(())
-}
 
 fn main(rt: HostRuntime) -> io::Result<()> {
     let mut text = Vec::new(rt.alloc());
     rt.reader().take(4096).read_to_end(&mut text)?;
-    play(&rt, &text)
+    let mut bench = Bench::START;
+    for byte in &text {
+        bench.feed(&rt, *byte)?;
+    }
+    Ok(())
 }

@@ -1,5 +1,4 @@
 // Standard input, from one byte to the next.
-use crate::show;
 use std::io;
 use std::io::Read;
 
@@ -13,29 +12,24 @@ pub(crate) fn next(input: &mut impl Read) -> io::Result<u8> {
 // The number whose digits stand next, at most nine of them, up to a blank or a line end, which is taken too.
 pub(crate) fn number(input: &mut impl Read) -> io::Result<usize> {
     let mut n = 0;
-    let mut left: usize = 10;
-    while left > 0 {
+    for _ in 0..10 {
         let b = next(input)?;
         if b < b'0' {
-            return Ok(n);
+            break;
         }
-        n = n % 100000000 * 10 + (b - b'0') as usize;
-        left -= 1;
+        n = n % 100000000 * 10 + usize::from(b - b'0');
     }
     Ok(n)
 }
 
 // Shows the bytes up to a quote, of which there are at most 100, as a line.
 pub(crate) fn label(rt: &impl Print, input: &mut impl Read) -> io::Result<()> {
-    let mut left: usize = 100;
-    while left > 0 {
+    for _ in 0..100 {
         let b = next(input)?;
         if b == b'"' {
-            show::byte(rt, b'\n')?;
-            return Ok(());
+            return println!(rt);
         }
-        show::byte(rt, b)?;
-        left -= 1;
+        rt.write_all(&[b])?;
     }
     Ok(())
 }

@@ -32,7 +32,7 @@ fn zeros<const N: usize>() -> [u8; N]
     [0; N]
 }
 
-// Room for a text of 65,536 lines.
+// Room for a text of 65,536 lines. It is no literal where it is used: there the check runs out of stack.
 fn text_room() -> [u8; 1200000]
     ensures { 1200000 ≡ length result }
 {
@@ -54,13 +54,30 @@ fn play(
     journal: &mut [u32],
 ) -> io::Result<()> {
     let mut size = 0;
-    let mut left: usize = 10000;
-    while left > 0 {
+    for _ in 0..10000 {
         let letter = input::next(input)?;
-        size = text::letter(rt, input, letter, size, text)?;
-        numbers::letter(rt, input, letter, text, size, journal)?;
-        calls::letter(rt, input, letter, text, size, journal)?;
-        left -= 1;
+        match letter {
+            b'v' => size = text::load(rt, input, text)?,
+            b'z' => size = input::number(input)?,
+            b'<' => size = text::add(input, text, size)?,
+            b'"' => input::label(rt, input)?,
+            b'n' => {
+                if let Some(text) = text.get(..size) {
+                    numbers::shown(text, journal);
+                }
+            }
+            b'e' => numbers::entries(rt, input, journal)?,
+            b'f' => numbers::fill(journal),
+            b'j' => numbers::store(input, journal)?,
+            b'w' => calls::write(rt, input, text, journal)?,
+            b'c' => calls::clean(rt, input, journal)?,
+            b'r' | b'o' | b'k' => {
+                if let Some(text) = text.get(..size) {
+                    calls::with_text(rt, input, letter, text, journal)?;
+                }
+            }
+            _ => {}
+        }
     }
     Ok(())
 }

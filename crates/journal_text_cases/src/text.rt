@@ -4,7 +4,7 @@ use std::io::Read;
 use std::rt::Files;
 use std::{fs, io};
 
-// Reads until the buffer is full or the input ends, and answers how many bytes came.
+// Reads until the buffer is full or the input ends, and answers how many bytes came. No `for`: each read tells how far it came.
 fn read_full(input: &mut impl Read, buf: &mut [u8]) -> io::Result<usize> {
     let mut end = 0;
     while end < buf.len() {
@@ -18,7 +18,11 @@ fn read_full(input: &mut impl Read, buf: &mut [u8]) -> io::Result<usize> {
 }
 
 // The number of bytes of the vector that the input names, read into `text`.
-fn load<R: Files + Eprint>(rt: &R, input: &mut impl Read, text: &mut [u8]) -> io::Result<usize> {
+pub(crate) fn load<R: Files + Eprint>(
+    rt: &R,
+    input: &mut impl Read,
+    text: &mut [u8],
+) -> io::Result<usize> {
     let mut name = [0u8; 6];
     read_full(input, &mut name)?;
     let path = str::from_utf8(&name).unwrap_or("");
@@ -32,35 +36,13 @@ fn load<R: Files + Eprint>(rt: &R, input: &mut impl Read, text: &mut [u8]) -> io
 }
 
 // Adds the bytes up to `>`, as far as there is room, and answers the size.
-fn add(input: &mut impl Read, text: &mut [u8], size: usize) -> io::Result<usize> {
-    let mut at = size;
-    while at < text.len() {
+pub(crate) fn add(input: &mut impl Read, text: &mut [u8], size: usize) -> io::Result<usize> {
+    for at in size..text.len() {
         let b = input::next(input)?;
         if b == b'>' {
             return Ok(at);
         }
         text[at] = b;
-        at += 1;
     }
-    Ok(at)
-}
-
-// What a letter does to the text, and its size after that.
-pub(crate) fn letter(
-    rt: &(impl Files + Print + Eprint),
-    input: &mut impl Read,
-    letter: u8,
-    size: usize,
-    text: &mut [u8],
-) -> io::Result<usize> {
-    Ok(match letter {
-        b'v' => load(rt, input, text)?,
-        b'z' => input::number(input)?,
-        b'<' => add(input, text, size)?,
-        b'"' => {
-            input::label(rt, input)?;
-            size
-        }
-        _ => size,
-    })
+    Ok(size.max(text.len()))
 }

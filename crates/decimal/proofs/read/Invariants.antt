@@ -1,11 +1,7 @@
--- The value is at most the bound, and with the digits from `i` on it makes the value of all digits. The measure is what is left of the
--- text.
-use Rattle.std.proofs.Common.{◌-◌, ◌≤◌, length}
-use Rattle.decimal.proofs.Reading.{Passed}
+-- The value is that of the digits so far, and at most the bound.
+use Rattle.std.proofs.Common.{◌≤◌, ◌≡◌, take}
+use Rattle.decimal.specs.Numeral.{value_from}
 use Rattle.decimal.proofs.read.Given as goal
 
-abbrev pub invariant-loop-d : goal.invariant-loop-d
-invariant-loop-d l = (l.value ≤ l.bound) × Passed l.text l.at l.value l.i
-
-abbrev pub decreases-loop-d : goal.decreases-loop-d
-decreases-loop-d l = length l.text - l.i
+abbrev pub invariant-loop-digit : goal.invariant-loop-digit
+invariant-loop-digit l = (l.value ≤ l.bound) × (l.value ≡ value_from 0 (take l.digit-index l.digits))
