@@ -1,9 +1,9 @@
 -- Whatever a host holds, there is a call for each step: it is handed what the step says, and what it gives meets its promise.
-use Rattle.std.specs.Prelude.{ℕ, ◌<◌, ◌≡◌, refl, List, [], ◌∷◌, Bool, true, length}
+use Rattle.std.specs.Prelude.{ℕ, ◌<◌, ◌≡◌, refl, List, [], ◌∷◌, Bool, true, length, Result}
 use Rattle.journal.specs.declared.Entry.{Entry}
 use Rattle.journal.specs.Entry.{count_of}
 use Rattle.record.specs.declared.Record.{Record}
-use Rattle.record.specs.declared.Taken.{Taken}
+use Rattle.record.specs.declared.Refusal.{Refusal}
 use Rattle.rules.specs.declared.Term.{Term}
 use Rattle.rules.specs.View.{PlayerView}
 use Rattle.rules.specs.Rules.{Outcome, main_rule, ack_rule, send_output}
@@ -23,7 +23,7 @@ pub record CallFor (h : Host) (s : Step) : Type 0 where
 
 -- what Take gives for the front entry of a line; from an empty line it does not matter
 record FrontTaken (l : List Sent) (own : Record) : Type 0 where
-  gave : Taken
+  gave : Result Record Refusal
   made : MadeTake gave l own
 
 front_taken : (l : List Sent) (own : Record) → FrontTaken l own

@@ -1,6 +1,6 @@
 -- Each call is a step of the world that its host shows: Send, Take, Ack, Join and Start, which change the lines.
 use Prim.Native.Nat.{ℕ, ◌≤◌, ◌<◌}
-use Rattle.std.specs.Prelude.{◌≡◌, Bool, true, false, cond, ◌||◌, eqb}
+use Rattle.std.specs.Prelude.{◌≡◌, Bool, true, false, cond, ◌||◌, eqb, Result, Ok, Err}
 use Rattle.std.proofs.Math.Path.{refl, sym, ap, ap₂, subst}
 use Rattle.std.proofs.Common.{subst₂, ◌∙◌, arith, lt-ltb, le-ltb}
 use Rattle.std.proofs.Math.Logic.{⊎_elim}
@@ -9,7 +9,8 @@ use Rattle.std.proofs.Math.ListN.{length, get_or-eq_default}
 use Rattle.std.proofs.lemmas.List.{set-get_or}
 use Rattle.lists.specs.Cases.{eq-or-ne, le-or-lt}
 use Rattle.journal.specs.Entry.{Placed, five_of}
-use Rattle.record.specs.declared.Taken.{Taken}
+use Rattle.record.specs.declared.Record.{Record}
+use Rattle.record.specs.declared.Refusal.{Refusal}
 use Rattle.record.specs.Record.{take_numbers}
 use Rattle.record.specs.Record as Take
 use Rattle.rules.specs.declared.Settings.{Settings}
@@ -37,15 +38,21 @@ taken_more : (l : List Placed) (p : Placed) (b : Bool) →
 taken_more l p true = sym (map-append five_of l (p ∷ []))
 taken_more l p false = refl
 
+-- the number of what a Take answers is its outcome's
+outcome-number : (own : Record) (t : Result Record Refusal) → Take.number_of t ≡ (Take.outcome_of own t).number
+outcome-number own (Ok next) = refl
+outcome-number own (Err refusal) = refl
+
 -- a window's end once its front entry is taken
-take_front-end : (p : Side) (acks : Bool) (s : W.Sent) (rest : List W.Sent) (t : Taken) →
-    Take.outcome_of t ≡ take_numbers (five_of s.placed) p.record' →
+take_front-end : (p : Side) (acks : Bool) (s : W.Sent) (rest : List W.Sent) (t : Result Record Refusal) →
+    Take.outcome_of p.record' t ≡ take_numbers (five_of s.placed) p.record' →
     take_front acks t (map in_numbers (s ∷ rest)) (end_of p) ≡ end_of (W.take_front acks s rest p)
 unfolding W.take_front
 take_front-end p acks s rest t made =
     let back : List Ack = cond (acks || s.ends) (p.back ++ (record { term = s.term; index = s.placed.index } ∷ [])) p.back in
-    ap (λ l. record { record' = t.record; line = map in_numbers rest; back = back; taken = l })
-    (taken_more p.taken s.placed (is_taken t))
+    ap (λ l. record { record' = (Take.outcome_of p.record' t).record'; line = map in_numbers rest; back = back; taken = l })
+    (taken_more p.taken s.placed (is_taken t)
+    ∙ ap (λ n. map five_of (cond (eqb n 0) (p.taken ++ (s.placed ∷ [])) p.taken)) (outcome-number p.record' t))
     ∙ ap (λ o. record {
       record' = o.record';
       line = map in_numbers rest;
@@ -68,7 +75,7 @@ module _ {h : Host} {wd : World} (is : Shows h wd) where
       ∙ ap (λ d. with_end w d h) (shows-end is w))
       is
 
-  take-line : (w : ℕ) (acks : Bool) (t : Taken) (l : List W.Sent) → MadeTake t (map in_numbers l) (side_at w wd).record' →
+  take-line : (w : ℕ) (acks : Bool) (t : Result Record Refusal) (l : List W.Sent) → MadeTake t (map in_numbers l) (side_at w wd).record' →
       Shows (with_end w (take_front acks t (map in_numbers l) (end_of (side_at w wd))) h) (take_at_line w acks l wd).world
   unfolding W.take_front
   take-line w acks t [] made = end_same w
@@ -76,12 +83,13 @@ module _ {h : Host} {wd : World} (is : Shows h wd) where
       shows-side is w _ (W.take_front acks s rest (side_at w wd)) (take_front-end (side_at w wd) acks s rest t made) refl
 
   -- answered 0 in both, or in neither
-  take_done : (w : ℕ) (acks : Bool) (t : Taken) (l : List W.Sent) → MadeTake t (map in_numbers l) (side_at w wd).record' →
+  take_done : (w : ℕ) (acks : Bool) (t : Result Record Refusal) (l : List W.Sent) → MadeTake t (map in_numbers l) (side_at w wd).record' →
       Delivery.is_done (take_at_line w acks l wd).reply ≡ done_at_line (map in_numbers l) (is_taken t)
   take_done w acks t [] made = refl
-  take_done w acks t (s ∷ rest) made = ap (λ o. eqb o.number 0) (sym made)
+  take_done w acks t (s ∷ rest) made =
+      ap (λ o. eqb o.number 0) (sym made) ∙ ap (λ n. eqb n 0) (sym (outcome-number (side_at w wd).record' t))
 
-  pub follows-take : (w : ℕ) (acks : Bool) (t : Taken) → Made h (take w acks t) → Follows (take w acks t) h wd
+  pub follows-take : (w : ℕ) (acks : Bool) (t : Result Record Refusal) → Made h (take w acks t) → Follows (take w acks t) h wd
   unfolding W.step_by after
   follows-take w acks t made =
       let p : Side = side_at w wd in

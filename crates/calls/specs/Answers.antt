@@ -1,5 +1,5 @@
 -- Every number that a rule answers is the number of an answer of the calls.
-use Rattle.std.specs.Prelude.{ℕ, ◌≡◌, refl, List, [], ◌∷◌, map, Bool, true, false, cond, eqb}
+use Rattle.std.specs.Prelude.{ℕ, ◌≡◌, refl, List, [], ◌∷◌, map, Bool, true, false, cond, eqb, Ok, Err}
 use Rattle.std.proofs.Common.{sym, ⊎_elim, eqb-true}
 use Rattle.std.proofs.lemmas.Bool.{false≢true}
 use Rattle.lists.specs.Cases.{true-or-false}
@@ -9,9 +9,8 @@ use Rattle.rules.specs.declared.Term.{Term}
 use Rattle.rules.specs.View.{PlayerView}
 use Rattle.rules.specs.Rules.{main_rule, catch_rule, written_rule, ack_rule, drop_rule, join_rule, send_rule, start_rule}
 use Rattle.rules.proofs.Offers.{start_rule-refusals, main_rule-refusals, catch_rule-refusals, send_rule-refusals, written_rule-refusals, ack_rule-refusals, drop_rule-refusals, join_rule-refusals}
-use Rattle.window.specs.declared.Answer.{Answer}
-use Rattle.window.specs.declared.Answer.TheVariants.{Done, OutOfShape, NoSuchWindow, Suspended, NothingToRead, OtherTerm, OtherIndex, NothingReady, LineState, TooManyBatches, CatchUpFull, BadAck, NotSuspended, BadReport, LastTerm, OutputTooShort, BadSpacing}
-use Rattle.window.specs.Promise.{number_of}
+use Rattle.window.specs.declared.Refusal.TheVariants.{OutOfShape, NoSuchWindow, Suspended, NothingToRead, OtherTerm, OtherIndex, NothingReady, LineState, TooManyBatches, CatchUpFull, BadAck, NotSuspended, BadReport, LastTerm, OutputTooShort, BadSpacing}
+use Rattle.window.specs.Promise.{Answer, number_of}
 
 -- an answer with this number
 pub record Numbered (n : ℕ) : Type 0 where
@@ -20,8 +19,9 @@ pub record Numbered (n : ℕ) : Type 0 where
 
 abbrev answers : List Answer
 answers =
-    Done ∷ OutOfShape ∷ NoSuchWindow ∷ Suspended ∷ NothingToRead ∷ OtherTerm ∷ OtherIndex ∷ NothingReady ∷ LineState ∷ TooManyBatches
-    ∷ CatchUpFull ∷ BadAck ∷ NotSuspended ∷ BadReport ∷ LastTerm ∷ OutputTooShort ∷ BadSpacing ∷ []
+    Ok tt ∷ Err OutOfShape ∷ Err NoSuchWindow ∷ Err Suspended ∷ Err NothingToRead ∷ Err OtherTerm ∷ Err OtherIndex ∷ Err NothingReady
+    ∷ Err LineState ∷ Err TooManyBatches ∷ Err CatchUpFull ∷ Err BadAck ∷ Err NotSuspended ∷ Err BadReport ∷ Err LastTerm
+    ∷ Err OutputTooShort ∷ Err BadSpacing ∷ []
 
 -- whether one of some answers has this number
 is_in : List Answer → ℕ → Bool

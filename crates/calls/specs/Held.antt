@@ -1,13 +1,13 @@
 -- A player for each view, and what Take gives for all numbers: so what a promise asks of a call can be given.
-use Rattle.std.specs.Prelude.{ℕ, ◌-◌, ◌≡◌, refl, List, [], ◌∷◌, ◌++◌, map, true, false, length, drop, replicate, eqb}
+use Rattle.std.specs.Prelude.{ℕ, ◌-◌, ◌≡◌, refl, List, [], ◌∷◌, ◌++◌, map, true, false, length, drop, replicate, eqb, Result, Ok, Err}
 use Rattle.std.proofs.Common.{sym, ap, ap₂, ◌∙◌, ⊎_elim, drop_at}
 use Rattle.std.proofs.lemmas.List.{length-map}
 use Rattle.lists.specs.Cases.{eq-or-ne, true-or-false}
 use Rattle.lists.specs.Cells.{front}
 use Rattle.queue.specs.Items.{Queue, Batches, items_in, items_of, batches_of}
 use Rattle.record.specs.declared.Record.{Record}
-use Rattle.record.specs.declared.Taken.{Taken}
-use Rattle.record.specs.declared.Answer.TheVariants.{Done, OutOfShape, Full}
+use Rattle.record.specs.declared.Refusal.{Refusal}
+use Rattle.record.specs.declared.Refusal.TheVariants.{OutOfShape, Full}
 use Rattle.record.specs.Record.{outcome_of, take_entry, take_numbers}
 use Rattle.rules.specs.View.{Condition, normal, fetching, completed, suspended, WindowView, PlayerView}
 use Rattle.rules.specs.Rules.{Outcome}
@@ -157,12 +157,12 @@ given before o n same a =
 
 -- what Take gives
 pub record TakeGiven (numbers : List ℕ) (own : Record) : Type 0 where
-  pub gave : Taken
-  pub meets : outcome_of gave ≡ take_numbers numbers own
+  pub gave : Result Record Refusal
+  pub meets : outcome_of own gave ≡ take_numbers numbers own
 
 -- where there are not five numbers
 shapeless : {numbers : List ℕ} (own : Record) → take_numbers numbers own ≡ record { number = 1; record' = own } → TakeGiven numbers own
-shapeless own e = record { gave = record { answer = OutOfShape; «record» = own }; meets = sym e }
+shapeless own e = record { gave = Err OutOfShape; meets = sym e }
 
 pub take_given : (numbers : List ℕ) (own : Record) → TakeGiven numbers own
 unfolding take_numbers take_entry
@@ -174,7 +174,7 @@ take_given (i ∷ s ∷ k ∷ c ∷ []) own = shapeless own refl
 take_given (i ∷ s ∷ k ∷ c ∷ v ∷ []) own =
     let next : Record = (take_numbers (i ∷ s ∷ k ∷ c ∷ v ∷ []) own).record' in
     ⊎_elim
-    (λ (full : eqb own.count 4294967295 ≡ true). record { gave = record { answer = Full; «record» = next }; meets = rw full })
-    (λ (room : eqb own.count 4294967295 ≡ false). record { gave = record { answer = Done; «record» = next }; meets = rw room })
+    (λ (full : eqb own.count 4294967295 ≡ true). record { gave = Err Full; meets = rw full })
+    (λ (room : eqb own.count 4294967295 ≡ false). record { gave = Ok next; meets = rw room })
     (true-or-false (eqb own.count 4294967295))
 take_given (i ∷ s ∷ k ∷ c ∷ v ∷ x ∷ xs) own = shapeless own refl

@@ -1,12 +1,12 @@
 -- Document 01, "Whole runs", with document 02's acks (W1), silent windows (W3), ticks (W5) and first term (W7), of the calls as `src/` has
 -- them: what a host holds, what each call is handed and gives back, what the calls promise of that, and what the host holds afterwards.
 -- Each call is handed the player, record and journal as the calls before left them.
-use Rattle.std.specs.Prelude.{ℕ, ◌<◌, max, ◌≡◌, List, [], ◌∷◌, ◌++◌, map, Bool, true, false, cond, ◌||◌, length, get_or, set, replicate, leb, ltb, eqb}
+use Rattle.std.specs.Prelude.{ℕ, ◌<◌, max, ◌≡◌, List, [], ◌∷◌, ◌++◌, map, Bool, true, false, cond, ◌||◌, length, get_or, set, replicate, leb, ltb, eqb, Result}
 use Rattle.journal.specs.declared.Entry.{Entry}
 use Rattle.journal.specs.declared.Index.{Index}
 use Rattle.journal.specs.Entry.{count_of, numbers_of}
 use Rattle.record.specs.declared.Record.{Record}
-use Rattle.record.specs.declared.Taken.{Taken}
+use Rattle.record.specs.declared.Refusal.{Refusal}
 use Rattle.record.specs.Record.{new_record, outcome_of, take_numbers}
 use Rattle.record.specs.Record as Take
 use Rattle.rules.specs.declared.Settings.{Settings}
@@ -113,7 +113,7 @@ pub data Call : Type 0 where
   catch : (w : ℕ) (t : Term) (index : Index) (gave : Played) → Call
   written : (w : ℕ) (t : Term) (gave : Played) → Call
   send : (w : ℕ) (lent : List ℕ) (gave : Played) (out : List ℕ) → Call
-  take : (w : ℕ) (acks : Bool) (gave : Taken) → Call
+  take : (w : ℕ) (acks : Bool) (gave : Result Record Refusal) → Call
   ack : (w : ℕ) (gave : Played) → Call
   late-ack : (w : ℕ) (t : Term) (index : Index) (gave : Played) → Call
   drop : (w : ℕ) (gave : Played) → Call
@@ -148,9 +148,9 @@ is_late w t h = leb (length h.windows) w || ltb t.0 (held_for w h.player).term.0
 
 -- Take is lent the front entry's five numbers, by value or on a record lent: both promise this. From an empty line, and at a window that is
 -- not there, no Take is made: nothing is promised, and nothing changes
-abbrev pub MadeTake : Taken → List Sent → Record → Type 0
+abbrev pub MadeTake : Result Record Refusal → List Sent → Record → Type 0
 MadeTake t [] own = Unit {0}
-MadeTake t (s ∷ rest) own = outcome_of t ≡ take_numbers s.numbers own
+MadeTake t (s ∷ rest) own = outcome_of own t ≡ take_numbers s.numbers own
 
 -- Ack is handed the front ack. From an empty line, and at a window that is not there, no Ack is made, as above
 abbrev pub MadeAck : ℕ → Played → List Ack → Host → Type 0
@@ -185,8 +185,8 @@ Made h (append e) = count_of h.journal < 65535
 abbrev pub is_done : Played → Bool
 is_done r = eqb (number_of r.answer) 0
 
-abbrev pub is_taken : Taken → Bool
-is_taken t = eqb (Take.number_of t.answer) 0
+abbrev pub is_taken : Result Record Refusal → Bool
+is_taken t = eqb (Take.number_of t) 0
 
 -- From an empty line no Take and no Ack is made, so none is answered 0.
 abbrev pub done_at_line : {A : Type 0} → List A → Bool → Bool
@@ -232,10 +232,10 @@ ack_for s = record { term = s.term; index = index_of s.numbers }
 
 -- Take removes the front entry. Where it `acks`, and always where the entry is the last of its batch, it puts an ack on the way back. From
 -- an empty line nothing changes
-abbrev pub take_front : Bool → Taken → List Sent → WindowEnd → WindowEnd
+abbrev pub take_front : Bool → Result Record Refusal → List Sent → WindowEnd → WindowEnd
 take_front acks t [] d = d
 take_front acks t (s ∷ rest) d = record {
-  record' = t.record;
+  record' = (outcome_of d.record' t).record';
   line = rest;
   back = cond (acks || s.ends) (d.back ++ (ack_for s ∷ [])) d.back;
   taken = cond (is_taken t) (d.taken ++ (s.numbers ∷ [])) d.taken;

@@ -12,8 +12,8 @@ use Rattle.journal.specs.Entry.{in_shape, count_of}
 use Rattle.journal.specs.EntryLaws.{in_shape-entries}
 use Rattle.lists.specs.All.{all}
 use Rattle.lists.specs.Cases.{and_left, and_right}
-use Rattle.window.specs.declared.Answer.{Answer}
-use Rattle.window.specs.declared.Answer.TheVariants.{Done, OutOfShape, BadReport, BadSpacing}
+use Rattle.std.specs.Prelude.{Ok, Err}
+use Rattle.window.specs.declared.Refusal.TheVariants.{OutOfShape, BadReport, BadSpacing}
 use Rattle.window.specs.declared.Window.{Window}
 use Rattle.player.specs.declared.Player.{Player}
 use Rattle.player.specs.View.{player_of}
@@ -23,7 +23,7 @@ use Rattle.rules.specs.Window.{Report}
 use Rattle.rules.specs.Rules.{refuse, said, is_start_report, first_fits, start_fits, start_rule}
 use Rattle.rules.proofs.Offers.{reports-le}
 use Rattle.player.specs.Promise.{fresh_windows, fresh_player, Starts}
-use Rattle.window.specs.Promise.{number_of}
+use Rattle.window.specs.Promise.{Answer, number_of}
 use Rattle.operations.specs.Starting.{lowest, lowest-least, fresh_player-shown}
 
 -- as many reports as windows and sixteen at most, and a journal in shape
@@ -57,22 +57,22 @@ module _ (ns : List ℕ) (count : ℕ) (settings : Settings) (reports : List ℕ
         (number_of a ≡ 0 → ⊥) → Gives a p
     refused a e n = rw e (record { answer = refl; next = refl; fresh = λ z. absurd (n z); unchanged = λ h. refl })
 
-    pub start-shapeless : start_fits ns count settings reports ≡ false → Gives OutOfShape p
+    pub start-shapeless : start_fits ns count settings reports ≡ false → Gives (Err OutOfShape) p
     unfolding start_rule
-    start-shapeless h = refused OutOfShape (rw h) (λ z. omega arith)
+    start-shapeless h = refused (Err OutOfShape) (rw h) (λ z. omega arith)
 
     module _ (h : start_fits ns count settings reports ≡ true) where
-      pub start-unspaced : spacing_fits settings.spacing ≡ false → Gives BadSpacing p
+      pub start-unspaced : spacing_fits settings.spacing ≡ false → Gives (Err BadSpacing) p
       unfolding start_rule
-      start-unspaced s = refused BadSpacing (rw (h, s)) (λ z. omega arith)
+      start-unspaced s = refused (Err BadSpacing) (rw (h, s)) (λ z. omega arith)
 
       module _ (s : spacing_fits settings.spacing ≡ true) where
-        pub start-refused : all (is_start_report (count_of ns)) heard ≡ false → Gives BadReport p
+        pub start-refused : all (is_start_report (count_of ns)) heard ≡ false → Gives (Err BadReport) p
         unfolding start_rule
-        start-refused b = refused BadReport (rw (h, s, b)) (λ z. omega arith)
+        start-refused b = refused (Err BadReport) (rw (h, s, b)) (λ z. omega arith)
 
         pub start-done : all (is_start_report (count_of ns)) heard ≡ true → (r : Player) →
-            r ≡ fresh_player (count_of ns) count settings reports → Gives Done r
+            r ≡ fresh_player (count_of ns) count settings reports → Gives (Ok tt) r
         unfolding start_rule
         start-done b r e =
             rw (h, s, b, e)

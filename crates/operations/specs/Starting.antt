@@ -1,9 +1,12 @@
 -- For Start: what is said of each window one by one, the least report, and windows stored one by one.
-use Rattle.std.specs.Prelude.{ℕ, suc, ◌+◌, ◌-◌, ◌≤◌, ◌<◌, min, ◌≡◌, refl, List, [], ◌∷◌, ◌++◌, map, true, ◌&&◌, length, take, drop, get_or, set, replicate}
+use Rattle.std.specs.Prelude.{ℕ, suc, ◌+◌, ◌-◌, ◌≤◌, ◌<◌, min, ◌≡◌, refl, List, [], ◌∷◌, ◌++◌, map, true, ◌&&◌, length, take, drop, get_or, set, replicate, Result, Ok, Err}
 use Rattle.std.proofs.Common.{add-one, arith, sym, ap, ap₂, ◌∙◌, append_assoc, drop_of_length-le, length-append, take-suc, length-take-le, drop-cons}
 use Rattle.std.proofs.lemmas.List.{map-append, length-map, set_at}
 use Rattle.lists.specs.All.{all}
+use Rattle.window.specs.declared.Refusal.{Refusal}
 use Rattle.window.specs.declared.Window.{Window}
+use Rattle.player.specs.declared.Player.{Player}
+use Rattle.player.specs.declared.Played.{Played}
 use Rattle.window.specs.Promise.{started_window, started_window_by}
 use Rattle.window.specs.Laws.{view_of-started}
 use Rattle.player.specs.View.{first_windows, player_of}
@@ -13,6 +16,13 @@ use Rattle.rules.specs.declared.Settings.{Settings}
 use Rattle.rules.specs.Window.{Report, told, silence, started_by}
 use Rattle.rules.specs.Rules.{said_by, said, is_start_report, spoken, least}
 use Rattle.rules.proofs.Offers.{start_next, said-length, said_at}
+
+-- ------------------------------------------------------------------------
+-- what Start gives back, which makes a player or refuses
+
+abbrev pub played : Player → Result Player Refusal → Played
+played before (Ok fresh) = record { player = fresh; answer = Ok tt }
+played before (Err refusal) = record { player = before; answer = Err refusal }
 
 -- ------------------------------------------------------------------------
 -- said

@@ -6,12 +6,13 @@ ghost use Rattle.window.specs.Promise.{started_window_by};
 ghost use Rattle.player.specs.View.{player_of};
 ghost use Rattle.player.specs.Promise.{fresh_windows, Starts};
 ghost use Rattle.rules.specs.Rules.{said_by, said, is_start_report, first_fits, start_fits, start_rule};
-ghost use Rattle.operations.specs.Starting.{lesser, lowest};
+ghost use Rattle.player.specs.declared.Player.{Player};
+ghost use Rattle.operations.specs.Starting.{lesser, lowest, played};
 
 use journal::Index;
 use player::{Played, Player, count_fits};
 use rules::{Settings, Term};
-use window::{Answer, Window, limit_fits, spacing_fits};
+use window::{Refusal, Window, limit_fits, spacing_fits};
 
 // Whether a term can be the first: any but 0.
 fn first_fits(first: Term) -> bool
@@ -25,30 +26,18 @@ fn first_fits(first: Term) -> bool
 fn start_in_shape(journal: &[u32], count: u32, settings: Settings, reports: &[u32]) -> bool
     ensures { result ≡ start_fits journal.now count settings reports.now }
 {
-    let first = settings.first;
-    if !count_fits(count) {
-        return false;
-    }
-    if !limit_fits(settings.limit) {
-        return false;
-    }
-    if !first_fits(first) {
-        return false;
-    }
-    if !journal::in_shape(journal) {
-        return false;
-    }
-    reports.len() == count as usize
+    count_fits(count)
+        && limit_fits(settings.limit)
+        && first_fits(settings.first)
+        && journal::in_shape(journal)
+        && reports.len() == count as usize
 }
 
 // Whether window w is silent, or its report is at most L, l here.
 fn is_start_report(l: u32, w: u32, report: u32, silent: u32) -> bool
     ensures { result ≡ is_start_report l (said_by silent w report) }
 {
-    if journal::has(silent, w) {
-        return true;
-    }
-    report <= l
+    journal::has(silent, w) || report <= l
 }
 
 // Whether this holds of each window and its report.
@@ -56,13 +45,10 @@ fn are_reports(l: u32, reports: &[u32], silent: u32) -> bool
     requires { length reports.now ≤ 16 }
     ensures { result ≡ all (is_start_report l) (said silent reports.now) }
 {
-    let mut next = 0;
-    while next < reports.len() {
-        let w = next as u32;
-        if !is_start_report(l, w, reports[next], silent) {
+    for w in 0..reports.len() {
+        if !is_start_report(l, w as u32, reports[w], silent) {
             return false;
         }
-        next += 1;
     }
     true
 }
@@ -72,9 +58,10 @@ fn lesser(low: u32, w: u32, report: u32, silent: u32) -> u32
     ensures { result ≡ lesser low (said_by silent w report) }
 {
     if journal::has(silent, w) {
-        return low;
+        low
+    } else {
+        low.min(report)
     }
-    if report < low { report } else { low }
 }
 
 // The least of L and the reports of the windows that are not silent.
@@ -83,11 +70,8 @@ fn lowest(l: u32, reports: &[u32], silent: u32) -> Index
     ensures { result.0 ≡ lowest l (said silent reports.now) }
 {
     let mut low = l;
-    let mut next = 0;
-    while next < reports.len() {
-        let w = next as u32;
-        low = lesser(low, w, reports[next], silent);
-        next += 1;
+    for w in 0..reports.len() {
+        low = lesser(low, w as u32, reports[w], silent);
     }
     Index(low)
 }
@@ -97,9 +81,10 @@ fn window_of(first: Term, l: Index, w: u32, report: Index, silent: u32) -> Windo
     ensures { result ≡ started_window_by first l.0 (said_by silent w report.0) }
 {
     if journal::has(silent, w) {
-        return Window::silent(first, l);
+        Window::silent(first, l)
+    } else {
+        Window::started(first, report)
     }
-    Window::started(first, report)
 }
 
 // The sixteen windows as Start leaves them: those from the number of reports up with a report of 0.
@@ -107,15 +92,40 @@ fn windows_of(first: Term, l: Index, reports: &[u32], silent: u32) -> [Window; 1
     requires { length reports.now ≤ 16 }
     ensures { result ≡ fresh_windows first l.0 (said silent reports.now) }
 {
-    let none = Window::started(first, Index(0));
-    let mut windows = [none; 16];
-    let mut next = 0;
-    while next < reports.len() {
-        let w = next as u32;
-        windows[next] = window_of(first, l, w, Index(reports[next]), silent);
-        next += 1;
+    let mut windows = [Window::started(first, Index(0)); 16];
+    for w in 0..reports.len() {
+        windows[w] = window_of(first, l, w as u32, Index(reports[w]), silent);
     }
     windows
+}
+
+// The player that Start makes, or its refusal.
+fn start(
+    journal: &[u32],
+    count: u32,
+    settings: Settings,
+    reports: &[u32],
+) -> Result<Player, Refusal>
+    ensures { (before : Player) → Starts before (count_of journal.now) count settings reports.now (played before result)
+        (start_rule journal.now count settings reports.now (player_of before)) }
+{
+    if !start_in_shape(journal, count, settings, reports) {
+        return Err(Refusal::OutOfShape);
+    }
+    if !spacing_fits(settings.spacing) {
+        return Err(Refusal::BadSpacing);
+    }
+    let l = journal::entries(journal) as u32;
+    if !are_reports(l, reports, settings.silent) {
+        return Err(Refusal::BadReport);
+    }
+    Ok(Player {
+        count,
+        limit: settings.limit,
+        spacing: settings.spacing,
+        current: lowest(l, reports, settings.silent),
+        windows: windows_of(settings.first, Index(l), reports, settings.silent),
+    })
 }
 
 // Start: 1, also where the first term is 0 or there are not exactly `count` reports; 18: the spacing is not 1 to
@@ -133,36 +143,14 @@ pub fn start_on(
     ensures { Starts player (count_of journal.now) count settings reports.now result
         (start_rule journal.now count settings reports.now (player_of player)) }
 {
-    let first = settings.first;
-    let silent = settings.silent;
-    if !start_in_shape(journal, count, settings, reports) {
-        return Played {
-            answer: Answer::OutOfShape,
+    match start(journal, count, settings, reports) {
+        Ok(fresh) => Played {
+            player: fresh,
+            answer: Ok(()),
+        },
+        Err(refusal) => Played {
             player,
-        };
-    }
-    if !spacing_fits(settings.spacing) {
-        return Played {
-            answer: Answer::BadSpacing,
-            player,
-        };
-    }
-    let l = journal::entries(journal) as u32;
-    if !are_reports(l, reports, silent) {
-        return Played {
-            answer: Answer::BadReport,
-            player,
-        };
-    }
-    let fresh = Player {
-        count,
-        limit: settings.limit,
-        spacing: settings.spacing,
-        current: lowest(l, reports, silent),
-        windows: windows_of(first, Index(l), reports, silent),
-    };
-    Played {
-        answer: Answer::Done,
-        player: fresh,
+            answer: Err(refusal),
+        },
     }
 }

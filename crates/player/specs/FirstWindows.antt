@@ -35,6 +35,14 @@ first_windows-set (suc n) [] w x h = absurd (not-suc-le-zero h)
 first_windows-set (suc n) (y ∷ ws) zero x h = refl
 first_windows-set (suc n) (y ∷ ws) (suc w) x h = ap (λ (t : List WindowView). view_of y ∷ t) (first_windows-set n ws w x (le_of_suc-le-suc h))
 
+-- a test of the first n windows, of which there are so many
+pub first_windows-test : (p : WindowView → Bool) (n : ℕ) (ws : List Window) → n ≤ length ws →
+    all p (first_windows n ws) ≡ all (λ w. p (view_of w)) (take n ws)
+unfolding first_windows all
+first_windows-test p zero ws h = refl
+first_windows-test p (suc n) [] h = absurd (not-suc-le-zero h)
+first_windows-test p (suc n) (x ∷ ws) h = ap (λ b. p (view_of x) && b) (first_windows-test p n ws (le_of_suc-le-suc h))
+
 -- the windows from w on: window w and those after it
 pub first_windows-drop : (n : ℕ) (ws : List Window) (w : ℕ) (d : Window) → w < n → n ≤ length ws →
     drop w (first_windows n ws) ≡ view_of (get_or ws w d) ∷ drop (w + 1) (first_windows n ws)

@@ -30,7 +30,7 @@ pub record Tested (ns : List ℕ) (p : Player) (at : ℕ) : Type 0 where
   pub entries : count_of ns ≤ 65535
   pub rest : shape ns (player_of p) ≡ fit_from ns p at
 
-shape-tested : (ns : List ℕ) (p : Player) → shape ns (player_of p) ≡ (fit_numbers ns p && fit_from ns p 0)
+pub shape-tested : (ns : List ℕ) (p : Player) → shape ns (player_of p) ≡ (fit_numbers ns p && fit_from ns p 0)
 unfolding shape player_of
 shape-tested ns p = simp (first_windows-length, and_assoc)
 

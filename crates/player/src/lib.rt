@@ -8,7 +8,7 @@ ghost use Rattle.player.specs.Promise.{blank_player};
 
 use journal::Index;
 use rules::Term;
-pub use shape::{count_fits, numbers_fit};
+pub use shape::count_fits;
 use window::{Answer, Window};
 
 // The player: the number of windows, the batch limit, the spacing of ticks, the last index read by the main stream, and
@@ -22,7 +22,8 @@ pub struct Player {
     pub windows: [Window; 16],
 }
 
-// An answer beside the player as it then is.
+// An answer beside the player as it then is. The player stands beside a refusal too, since it is promised then
+// (`Meets.unchanged`), and a must-fail edit has every refusal change it.
 #[derive(Clone, Copy)]
 pub struct Played {
     pub player: Player,
@@ -35,14 +36,12 @@ impl Player {
     pub fn blank() -> Player
         ensures { result ≡ blank_player }
     {
-        let window = Window::silent(Term(0), Index(0));
-        let windows = [window; 16];
         Player {
             count: 0,
             limit: 0,
             spacing: 0,
             current: Index(0),
-            windows,
+            windows: [Window::silent(Term(0), Index(0)); 16],
         }
     }
 }

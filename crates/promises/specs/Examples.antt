@@ -1,12 +1,11 @@
 -- A batch read from an output; and a list of calls of every kind, from a Start, computed on the steps that it makes.
-use Rattle.std.specs.Prelude.{ℕ, ◌≡◌, List, [], ◌∷◌, map, true, false}
+use Rattle.std.specs.Prelude.{ℕ, ◌≡◌, List, [], ◌∷◌, map, true, false, Ok}
 use Rattle.std.proofs.Math.Path.{refl}
 use Rattle.std.proofs.Common.{ap, ◌∙◌, arith}
 use Rattle.lists.specs.Cells.{front}
 use Rattle.journal.specs.Entry.{entry4, entries_of}
 use Rattle.queue.specs.Items.{items_in}
 use Rattle.rules.specs.declared.Settings.{Settings}
-use Rattle.window.specs.declared.Answer.TheVariants.{Done}
 use Rattle.window.specs.View.{view_of}
 use Rattle.player.specs.declared.Player.{Player}
 use Rattle.player.specs.declared.Played.{Played}
@@ -39,7 +38,7 @@ journal3 = 3 ∷ 1 ∷ 1 ∷ 50400 ∷ 1 ∷ 2 ∷ 1 ∷ 350 ∷ 2 ∷ 3 ∷ 1 �
 
 -- what the Start gives
 abbrev pub begun : Played
-begun = record { player = fresh_player 3 2 (chosen 1 0) (new_reports 2); answer = Done }
+begun = record { player = fresh_player 3 2 (chosen 1 0) (new_reports 2); answer = Ok tt }
 
 abbrev pub host0 : Host
 host0 = opened begun.player (term 1) journal3 2

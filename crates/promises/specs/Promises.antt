@@ -1,8 +1,8 @@
 -- What `Made` of `calls` asks of a call is what the call's contract in `src/` promises. Each law is a result to be read: it goes from the
 -- contract, as the toolchain reads it of the arguments `a`, the result `r` and what is left behind a `&mut`, to `Made` of a host that hands
 -- the call those arguments. An append is the host's own, and no call.
-use Rattle.std.specs.Prelude.{ℕ, ◌<◌, ◌≡◌, List, ◌∷◌, map, Bool, true, length, get_or}
-use Rattle.std.proofs.Common.{sym, ap, ap₂, ◌∙◌}
+use Rattle.std.specs.Prelude.{ℕ, ◌<◌, ◌≡◌, List, ◌∷◌, map, Bool, true, length, get_or, Result, Ok, Err, ⊤}
+use Rattle.std.proofs.Common.{arith, sym, ap, ap₂, ◌∙◌}
 use seplogic.Ra.Ura.{Ura}
 use Rattle.std.proofs.lemmas.List.{length-map, length-replicate, get_or-replicate}
 use base.Logic.{SProp, ent}
@@ -15,8 +15,11 @@ use denote.Triple.Clauses.{AtExit}
 use denote.Triple.Entry.{Args}
 use borrow.Fn.Kinds.{Dens, ended_of}
 use Rattle.journal.specs.Entry.{count_of}
-use Rattle.record.specs.declared.Answer.{Answer}
-use Rattle.record.specs.declared.Taken.{Taken}
+use Rattle.record.specs.declared.Record.{Record}
+use Rattle.record.specs.declared.Refusal.{Refusal}
+use Rattle.record.specs.declared.Refusal.TheVariants.{OutOfShape, Full}
+use Rattle.record.specs.Record.{outcome_of, refusal_number, number_of, take_numbers}
+use Rattle.record.proofs.Laws.{take_numbers-refused}
 use Rattle.rules.specs.declared.Settings.{Settings}
 use Rattle.rules.specs.Window.{Report}
 use Rattle.rules.specs.Rules.{speaks, spoken, least, start_rule}
@@ -161,18 +164,35 @@ first_made κs a r s h n e =
     (λ w l t. e w (rw n at l) t ∙ sym (get_or-replicate a.1.1.0 w 0 0 (rw n at l))) h
 
 -- the window's record, and the front entry's five numbers, whether the entry is then acked or not
-pub take-made : (κs : Lfts 1) (a : Dens κs take-kinds.ps) (r : Taken) (s : AtExit (ended_of 1 take-kinds.ps take-kinds.r) κs) →
+pub take-made : (κs : Lfts 1) (a : Dens κs take-kinds.ps) (r : Result Record Refusal) (s : AtExit (ended_of 1 take-kinds.ps take-kinds.r) κs) →
     take-reads.Post κs a r s →
     (h : Host) (w : ℕ) (acks : Bool) (front : Sent) (rest : List Sent) → (end_at w h).record' ≡ a.0 → (end_at w h).line ≡ front ∷ rest →
     front.numbers ≡ a.1.0.now → Made h (take w acks r)
 take-made κs a r s p h w acks front rest own line five = rw (own, line, five) p
 
+-- what Take by value gives for what Take on a record lent answers, and leaves
+abbrev given_lent : Result ⊤ Refusal → Record → Result Record Refusal
+given_lent (Ok taken) left = Ok left
+given_lent (Err refusal) left = Err refusal
+
+refusal-not-0 : (x : Refusal) → refusal_number x ≡ 0 → ⊥
+refusal-not-0 OutOfShape e = omega arith
+refusal-not-0 Full e = omega arith
+
+given_lent-outcome : (numbers : List ℕ) (own : Record) (r : Result ⊤ Refusal) (left : Record) →
+    number_of r ≡ (take_numbers numbers own).number → left ≡ (take_numbers numbers own).record' →
+    outcome_of own (given_lent r left) ≡ take_numbers numbers own
+given_lent-outcome numbers own (Ok taken) left number record' = ap₂ (λ n x. record { number = n; record' = x }) number record'
+given_lent-outcome numbers own (Err refusal) left number record' =
+    ap₂ (λ n x. record { number = n; record' = x }) number
+    (sym (take_numbers-refused numbers own (λ z. refusal-not-0 refusal (number ∙ z))))
+
 -- The contract of Take on a record lent is read in the logic's own terms: what it ensures entails the same. The record is lent as `a.0` and
 -- left as `s.0`.
 pub take-lent-made : {M : Type 1} {𝓤 : Ura M} (𝓛 : Logic 𝓤) (mem : Memory → SProp 𝓤) (run : Routine → Fun 𝓤)
-    (κs : Lfts 2) (a : Args lent.signature κs) (r : Answer) (s : AtExit lent.ended κs)
+    (κs : Lfts 2) (a : Args lent.signature κs) (r : Result ⊤ Refusal) (s : AtExit lent.ended κs)
     (h : Host) (w : ℕ) (acks : Bool) (front : Sent) (rest : List Sent) → (end_at w h).record' ≡ a.0.now → (end_at w h).line ≡ front ∷ rest →
     front.numbers ≡ a.1.0.now →
-    ent 𝓤 ((lent.clauses 𝓛 mem run κs a).ensures tt r s) (fact 𝓤 (Made h (take w acks (record { answer = r; «record» = s.0.now }))))
+    ent 𝓤 ((lent.clauses 𝓛 mem run κs a).ensures tt r s) (fact 𝓤 (Made h (take w acks (given_lent r s.0.now))))
 take-lent-made {𝓤 = 𝓤} 𝓛 mem run κs a r s h w acks front rest own line five =
-    fact_mono 𝓤 _ _ (λ (number, left). rw (own, line, five) (ap₂ (λ n x. record { number = n; record' = x }) number left))
+    fact_mono 𝓤 _ _ (λ (number, left). rw (own, line, five) (given_lent-outcome _ _ r s.0.now number left))

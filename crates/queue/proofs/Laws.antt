@@ -2,9 +2,8 @@
 use Rattle.std.specs.Prelude.{ℕ, zero, suc, ◌+◌, ◌-◌, ◌≤◌, ◌<◌, ◌≡◌, refl, List, [], ◌∷◌, ◌++◌, true, false, length, take, drop, get_or, set, min, leb}
 use Rattle.std.specs.List.{copy_within}
 use Rattle.std.proofs.Math.Seq.{paste}
-use Rattle.std.proofs.Math.Nat.{zero-add, le_refl}
-use Rattle.lists.specs.Cases.{le-or-lt}
-use mathlib.Core.Logic.{⊎_elim}
+use Rattle.std.proofs.Math.Nat.{zero-add}
+use Rattle.std.proofs.lemmas.List.{drop_min}
 use Rattle.std.proofs.lemmas.List.Edits.{length-paste, take-paste}
 use Rattle.std.proofs.Common.{zero-le, le_of_suc-le-suc, not-suc-le-zero, add-one, arith, sym, ap, ◌∙◌, drop_of_length-le, length-drop, drop-cons, lt-ltb, le-ltb, le-leb, leb-true}
 use Rattle.std.proofs.Math.Nat.{suc-sub-suc, sub-zero, zero-sub}
@@ -50,14 +49,6 @@ module _ {A : Type 0} (d : A) where
   front_out (suc n) (c ∷ cells) zero h = absurd (not-suc-le-zero h)
   front_out (suc n) (c ∷ cells) (suc k) h = front_out n cells k (le_of_suc-le-suc h)
 
-  drop_min : (n k : ℕ) (cells : List A) → drop (min k n) (front d n cells) ≡ drop k (front d n cells)
-  drop_min n k cells =
-      ⊎_elim
-      (λ (h : k ≤ n). let e : min k n ≡ k = omega arith in rw e)
-      (λ (h : n < k). let e : min k n ≡ n = omega arith in
-      rw e (drop_of_length-le (front d n cells) {i = n} (rw front_length (le_refl n)) ∙ sym (drop_of_length-le (front d n cells) {i = k} (rw front_length (omega arith)))))
-      (le-or-lt k n)
-
   take-paste_0 : (cells part : List A) (i : ℕ) → i ≤ length part → take i (paste cells 0 part i) ≡ take i part
   take-paste_0 cells part i h = ap (λ j. take j (paste cells 0 part i)) (sym (zero-add i)) ∙ take-paste cells 0 part i zero-le h
 
@@ -71,7 +62,7 @@ module _ {A : Type 0} (d : A) where
       ∙ take-paste_0 cells (drop (min k n) cells) (n - min k n) some
       ∙ sym (front-take _ _ some)
       ∙ sym (front-drop n cells (min k n))
-      ∙ drop_min n k cells
+      ∙ rw front_length at (drop_min k (front d n cells))
 
   -- the test that there are at most `size` items
   pub front_fits : (size n : ℕ) (cells : List A) → n ≤ size → leb (length (front d n cells)) size ≡ true

@@ -1,18 +1,20 @@
 // The loops over cells.
 ghost use Rattle.std.specs.Prelude.{◌≡◌, ◌≤◌, length};
 ghost use Rattle.lists.specs.Cells.{front};
-ghost use Rattle.lists.specs.All.{all, between};
+ghost use Rattle.lists.specs.All.{all, queued_in};
 ghost use Rattle.lists.specs.Above.{above};
 
-use crate::Cell;
-
-// Whether every number is from low to high.
-pub(crate) fn all_between<C: Cell>(cells: &[C], low: u32, high: u32) -> bool
-    ensures { result ≡ all (λ c. between low high (C.number c)) cells.now }
+// Whether every index is from 1 to l, which may be more than a cell holds. It looks at all of them: LLVM then compares eight at a time,
+// and with `all`, which stops at the first that is not, one at a time.
+pub(crate) fn all_queued(cells: &[u16], l: u32) -> bool
+    ensures { result ≡ all (queued_in l) cells.now }
 {
-    cells
-        .iter()
-        .all(|cell| low <= cell.number() && cell.number() <= high)
+    let top = u16::try_from(l).unwrap_or(u16::MAX);
+    let mut each = true;
+    for &cell in cells {
+        each &= 1 <= cell && cell <= top;
+    }
+    each
 }
 
 // Moves those of the first n cells that are above x to the front, in order, and gives how many they are.

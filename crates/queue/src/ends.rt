@@ -22,6 +22,6 @@ impl Batches {
     pub fn within(self, l: u32) -> bool
         ensures { result ≡ (leb (length (batches_of self)) 8 && all (held_in l) (batches_of self)) }
     {
-        self.all_between(0, l)
+        self.len <= 8 && self.cells[..self.len].iter().all(|&end| end <= l)
     }
 }

@@ -3,7 +3,7 @@ ghost use Rattle.std.specs.Prelude.{◌≡◌, ◌&&◌, leb, length};
 ghost use Rattle.queue.specs.Items.{items_of, fits_cell};
 ghost use Rattle.lists.specs.All.{all, queued_in};
 
-use crate::{Cell, Queue};
+use crate::{Cell, Queue, cells};
 
 impl Queue {
     // Whether a cell can hold the number. Every index of a journal in shape is such a number.
@@ -17,6 +17,6 @@ impl Queue {
     pub fn within(self, l: u32) -> bool
         ensures { result ≡ (leb (length (items_of self)) 128 && all (queued_in l) (items_of self)) }
     {
-        self.all_between(1, l)
+        self.len <= 128 && cells::all_queued(&self.cells[..self.len], l)
     }
 }

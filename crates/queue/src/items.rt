@@ -26,11 +26,12 @@ impl<T: Item, const N: usize> Row<T, N> {
     pub fn append(self, item: T) -> Row<T, N>
         ensures { items_in T.NONE result ≡ pushed N item (items_in T.NONE self) }
     {
-        let mut row = self;
-        if row.len < N {
-            row.cells[row.len] = item;
-            row.len += 1;
+        if N <= self.len {
+            return self;
         }
+        let mut row = self;
+        row.cells[row.len] = item;
+        row.len += 1;
         row
     }
 
@@ -38,13 +39,16 @@ impl<T: Item, const N: usize> Row<T, N> {
     pub fn skip(self, k: usize) -> Row<T, N>
         ensures { items_in T.NONE result ≡ skipped N k (items_in T.NONE self) }
     {
-        let mut row = self;
-        if row.len <= N {
-            let gone = k.min(row.len);
-            row.cells.copy_within(gone..row.len, 0);
-            row.len -= gone;
+        if N < self.len {
+            return self;
         }
-        row
+        let gone = k.min(self.len);
+        let mut cells = self.cells;
+        cells.copy_within(gone..self.len, 0);
+        Row {
+            cells,
+            len: self.len - gone,
+        }
     }
 
     // The row with no item in it.
@@ -54,6 +58,20 @@ impl<T: Item, const N: usize> Row<T, N> {
         Row { len: 0, ..self }
     }
 
+    // What the cell at the place k holds, counted from 0, or a fresh one where there is no such cell.
+    fn cell(self, k: usize) -> T
+        ensures { result ≡ get_or self.cells k T.NONE }
+    {
+        self.cells.get(k).copied().unwrap_or(T::NONE)
+    }
+
+    // The oldest item, where there is one: what the first cell holds.
+    pub fn first(self) -> T
+        ensures { result ≡ get_or self.cells 0 T.NONE }
+    {
+        self.cell(0)
+    }
+
     // The item at the place k, counted from 0.
     pub fn get(self, k: usize) -> Option<T>
         ensures { result ≡ slice_get (items_in T.NONE self) k }
@@ -61,20 +79,7 @@ impl<T: Item, const N: usize> Row<T, N> {
         if self.len <= k {
             return None;
         }
-        if N <= k {
-            return Some(T::NONE);
-        }
-        Some(self.cells[k])
-    }
-
-    // The oldest item, where there is one: what the first cell holds.
-    pub fn first(self) -> T
-        ensures { result ≡ get_or self.cells 0 T.NONE }
-    {
-        if N == 0 {
-            return T::NONE;
-        }
-        self.cells[0]
+        Some(self.cell(k))
     }
 
     // The number of items.

@@ -1,9 +1,8 @@
 // What a row of numbers does besides.
-ghost use Rattle.std.specs.Prelude.{◌≡◌, ◌&&◌, cond, leb, length, get_or};
+ghost use Rattle.std.specs.Prelude.{◌≡◌, cond, get_or};
 ghost use Rattle.queue.specs.Items.{items_in, pushed};
-ghost use Rattle.lists.specs.All.{all, between};
 
-use crate::{Cell, Row, cells};
+use crate::{Cell, Row};
 
 impl<C: Cell, const N: usize> Row<C, N> {
     // The row with one more number at its end, or as it was where it is full, or where no cell can hold the number.
@@ -24,12 +23,5 @@ impl<C: Cell, const N: usize> Row<C, N> {
             Some(cell) => cell.number(),
             None => 0,
         }
-    }
-
-    // Whether the length is at most N and every number is from low to high.
-    pub(crate) fn all_between(self, low: u32, high: u32) -> bool
-        ensures { result ≡ (leb (length (items_in C.NONE self)) N && all (λ c. between low high (C.number c)) (items_in C.NONE self)) }
-    {
-        self.len <= N && cells::all_between(&self.cells[..self.len], low, high)
     }
 }

@@ -15,7 +15,7 @@ use std::rt::Files;
 // Plays the file of a name, or says why it cannot be opened.
 fn play_file(rt: &(impl Files + Print + Eprint), name: &str) {
     match fs::open(rt, name) {
-        Ok(mut file) => play::play(rt, &mut file),
+        Ok(file) => play::play(rt, file),
         Err(error) => eprintln!(rt; "{name}: {error}").unwrap_or(()),
     }
 }
@@ -24,19 +24,17 @@ fn play_file(rt: &(impl Files + Print + Eprint), name: &str) {
 fn play_named(rt: &(impl Files + Input + Print + Eprint), name: &[u8]) {
     rt.write_all(name).unwrap_or(());
     rt.write_all(b"\n").unwrap_or(());
-    if check::same(name, b"-") {
-        play::play(rt, &mut rt.reader());
-        return;
-    }
     match str::from_utf8(name) {
+        Ok("-") => play::play(rt, rt.reader()),
         Ok(name) => play_file(rt, name),
         Err(_) => rt.eprintln("argument: not UTF-8").unwrap_or(()),
     }
 }
 
-// Plays the input that an argument names, or says why there is no such name.
+// Plays the input that an argument names, or says why there is no such name. std's `args` needs an allocator, and there
+// is no heap here.
 fn play_argument(rt: &(impl Env + Files + Input + Print + Eprint), i: usize) {
-    let mut name = [0u8; 4096];
+    let mut name = [0; 4096];
     match rt.arg(i, &mut name) {
         Ok(length) => play_named(rt, &name[..length]),
         Err(_) => rt.eprintln("argument: File name too long").unwrap_or(()),
@@ -45,19 +43,15 @@ fn play_argument(rt: &(impl Env + Files + Input + Print + Eprint), i: usize) {
 
 // Whether there is an argument i.
 fn has_argument(rt: &impl Env, i: usize) -> bool {
-    let mut none = [0u8; 0];
-    !matches!(rt.arg(i, &mut none), Err(FillError::NotPresent))
+    !matches!(rt.arg(i, &mut []), Err(FillError::NotPresent))
 }
 
 fn main(rt: HostRuntime) {
     if !has_argument(&rt, 1) {
-        play::play(&rt, &mut rt.reader());
+        play::play(&rt, rt.reader());
         return;
     }
-    for i in 1..usize::MAX {
-        if !has_argument(&rt, i) {
-            break;
-        }
+    for i in (1..usize::MAX).take_while(|&i| has_argument(&rt, i)) {
         play_argument(&rt, i);
     }
 }

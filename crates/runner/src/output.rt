@@ -1,116 +1,69 @@
 // Answers, collected in a buffer and written to standard output when it is full.
-ghost use Rattle.std.specs.Prelude.{◌≤◌, length};
-ghost use Rattle.runner.specs.Places.{Waiting};
+ghost use Rattle.std.specs.Prelude.{◌≡◌};
+ghost use Rattle.arrayvec.specs.ArrayVec.{array_vec_len};
 
-use itoa::Buffer;
+use arrayvec::ArrayVec;
 use script::{Reply, Stage};
+use std::fmt;
+use std::fmt::Write;
 
-// Puts a byte after the `used` first ones of the buffer, once these are written where the buffer is full, and answers how many there are.
-fn put(rt: &impl Print, out: &mut [u8], used: usize, byte: u8) -> usize
-    requires { Waiting used out.old }
-    ensures { result ≤ length out.old }
-{
-    if used < out.len() {
-        out[used] = byte;
-        return used + 1;
-    }
-    rt.write_all(out).unwrap_or(());
-    out[0] = byte;
-    1
+// Standard output, and the bytes that wait to be written. std's `BufWriter` needs an allocator, and there is no heap here.
+#[derive(Drop)]
+pub(crate) struct Output<'a, P: Print> {
+    rt: &'a P,
+    waiting: ArrayVec<u8, 4096>,
 }
 
-fn put_text(rt: &impl Print, out: &mut [u8], used: usize, text: &[u8]) -> usize
-    requires { Waiting used out.old }
-    ensures { result ≤ length out.old }
-{
-    let mut now = used;
-    let mut i = 0;
-    while i < text.len() {
-        now = put(rt, out, now, text[i]);
-        i += 1;
-    }
-    now
-}
-
-fn put_number(rt: &impl Print, out: &mut [u8], used: usize, n: u64) -> usize
-    requires { Waiting used out.old }
-    ensures { result ≤ length out.old }
-{
-    let mut digits = Buffer::new();
-    put_text(rt, out, used, digits.format(n).as_bytes())
-}
-
-fn put_reply(rt: &impl Print, out: &mut [u8], used: usize, reply: Reply) -> usize
-    requires { Waiting used out.old }
-    ensures { result ≤ length out.old }
-{
-    match reply {
-        Reply::Answered(number) => put_number(rt, out, used, number as u64),
-        Reply::Empty => put(rt, out, used, b'-'),
-    }
-}
-
-// Puts a step's number and its answer, a line.
-pub(crate) fn put_answer(
-    rt: &impl Print,
-    out: &mut [u8],
-    used: usize,
-    number: u64,
-    reply: Reply,
-) -> usize
-    requires { Waiting used out.old }
-    ensures { result ≤ length out.old }
-{
-    let after_number = put_number(rt, out, used, number);
-    let after_blank = put(rt, out, after_number, b' ');
-    let after_answer = put_reply(rt, out, after_blank, reply);
-    put(rt, out, after_answer, b'\n')
-}
-
-// Puts a window's number, its last index and its count, a line.
-fn put_window(
-    rt: &impl Print,
-    out: &mut [u8],
-    used: usize,
-    w: usize,
-    last: u32,
-    count: u32,
-) -> usize
-    requires { Waiting used out.old }
-    ensures { result ≤ length out.old }
-{
-    let after_word = put_text(rt, out, used, b"window ");
-    let after_number = put_number(rt, out, after_word, w as u64);
-    let after_blank = put(rt, out, after_number, b' ');
-    let after_last = put_number(rt, out, after_blank, last as u64);
-    let before_count = put(rt, out, after_last, b' ');
-    let after_count = put_number(rt, out, before_count, count as u64);
-    put(rt, out, after_count, b'\n')
-}
-
-// Puts a line for each window and writes all that waits.
-pub(crate) fn put_windows(rt: &impl Print, out: &mut [u8], used: usize, stage: Stage, count: u32)
-    requires { Waiting used out.old }
-{
-    let records = stage.records;
-    let mut now = used;
-    let mut w = 0;
-    while w < 16 {
-        if count <= w as u32 {
-            break;
+impl<P: Print> Write for Output<'_, P> {
+    fn write_str(&mut self, text: &str) -> fmt::Result {
+        for &byte in text.as_bytes() {
+            self.put(byte);
         }
-        let record = records[w];
-        let last = record.last;
-        now = put_window(rt, out, now, w, last.0, record.count);
-        w += 1;
+        Ok(())
     }
-    rt.write_all(&out[0..now]).unwrap_or(());
 }
 
-// Puts the line `bad` and writes all that waits.
-pub(crate) fn refuse(rt: &impl Print, out: &mut [u8], used: usize)
-    requires { Waiting used out.old }
-{
-    let end = put_text(rt, out, used, b"bad\n");
-    rt.write_all(&out[0..end]).unwrap_or(());
+impl<'a, P: Print> Output<'a, P> {
+    pub(crate) fn new(rt: &'a P) -> Output<'a, P> {
+        Output {
+            rt,
+            waiting: ArrayVec::new(),
+        }
+    }
+
+    // Writes all that waits. A write that fails is passed over.
+    pub(crate) fn flush(&mut self)
+        ensures { array_vec_len self.new.waiting ≡ 0 }
+    {
+        let _ = self.rt.write_all(self.waiting.as_slice());
+        self.waiting.clear();
+    }
+
+    // Puts a byte, once all that waits is written where the buffer is full.
+    fn put(&mut self, byte: u8) {
+        if self.waiting.is_full() {
+            self.flush();
+        }
+        self.waiting.push(byte);
+    }
+
+    // Puts a step's number and its answer, a line.
+    pub(crate) fn put_answer(&mut self, number: u64, reply: Reply) {
+        let _ = match reply {
+            Reply::Answered(answer) => writeln!(self, "{number} {answer}"),
+            Reply::Empty => writeln!(self, "{number} -"),
+        };
+    }
+
+    // Puts a line for each of the first windows, `count` of them: its number, its last index and its count.
+    pub(crate) fn put_windows(&mut self, stage: &Stage, count: u32) {
+        for (w, record) in stage.records.iter().take(count as usize).enumerate() {
+            let _ = writeln!(self, "window {w} {} {}", record.last.0, record.count);
+        }
+    }
+
+    // Puts the line `bad`.
+    pub(crate) fn refuse(&mut self) {
+        let _ = writeln!(self, "bad");
+    }
 }

@@ -1,121 +1,70 @@
 // One input, from its first line to its last: the head is read whole, then one step after another is played.
-ghost use Rattle.std.specs.Prelude.{◌≤◌};
-ghost use Rattle.runner.specs.Places.{Places, Waiting};
-
-use crate::input;
-use crate::input::Run;
-use crate::output::{put_answer, put_windows, refuse};
-use journal_text::Reading;
+use crate::input::{Lines, find_lf};
+use crate::output::Output;
 use script::Stage;
-use script_line::{StepLine, Windows};
 use std::io::Read;
 
-// Reads an input and writes the answers to standard output. A head with 2,000 entries has at most 58,918 bytes,
-// so where no line of the first 65,536 bytes is `run` the input is malformed.
-pub(crate) fn play(rt: &impl Print, input: &mut impl Read) {
-    let mut buf = [0u8; 65536];
-    let run = input::find_run(input, &mut buf);
-    let mut out = [0u8; 4096];
-    if run.next == run.at {
-        refuse(rt, &mut out, 0);
-        return;
-    }
-    play_head(rt, input, &mut buf, run, &mut out)
-}
-
-// Reads the first line of an input whose `run` line is found, and goes on after it.
-fn play_head(rt: &impl Print, input: &mut impl Read, buf: &mut [u8], run: Run, out: &mut [u8])
-    requires { Places run.at run.next run.end buf.old × Waiting 0 out.old }
-{
-    let at = run.at;
-    let first = input::line_end(buf, 0, at);
-    if first == at {
-        refuse(rt, out, 0);
-        return;
-    }
-    let Windows::Count(count) = script_line::read_windows(&buf[0..first]) else {
-        refuse(rt, out, 0);
-        return;
-    };
-    play_journal(rt, input, buf, run, first + 1, count, out)
-}
-
-// Reads the journal, which begins at `from` and ends before the `run` line, and plays the steps after that.
-fn play_journal(
-    rt: &impl Print,
-    input: &mut impl Read,
-    buf: &mut [u8],
-    run: Run,
-    from: usize,
+// What the head of an input says: the number of windows, and the journal.
+#[derive(Clone, Copy)]
+struct Head<'a> {
     count: u32,
-    out: &mut [u8],
-)
-    requires places { Places run.at run.next run.end buf.old × Waiting 0 out.old }
-    requires from_le_at { from ≤ run.at }
-{
-    let at = run.at;
-    let mut numbers = [0u32; 8000];
-    let Reading::Entries(n) = journal_text::read(&buf[from..at], &mut numbers) else {
-        refuse(rt, out, 0);
-        return;
-    };
-    if 2000 < n {
-        refuse(rt, out, 0);
-        return;
+    journal: &'a [u32],
+}
+
+// Plays an input and writes the answers to standard output, and then `bad` where a line is malformed.
+pub(crate) fn play(rt: &impl Print, reader: impl Read + Drop) {
+    let mut lines = Lines::new(reader);
+    let mut out = Output::new(rt);
+    if play_lines(&mut lines, &mut out).is_none() {
+        out.refuse();
     }
-    let size = n * 4;
-    let journal = &numbers[0..size];
-    let opened = Stage::open(journal, count);
+    out.flush();
+}
+
+// Plays the head and the steps. None where a line is malformed, or the journal has too many entries.
+fn play_lines(lines: &mut Lines<impl Read>, out: &mut Output<'_, impl Print>) -> Option<()> {
+    let mut numbers = [0; 8000];
+    let head = read_head(lines, &mut numbers)?;
+    let opened = Stage::open(head.journal, head.count);
     if !opened.ok {
-        refuse(rt, out, 0);
-        return;
+        return None;
     }
-    play_steps(rt, input, buf, run, journal, opened.stage, count, out)
+    play_steps(lines, out, head, opened.stage)
 }
 
-// Plays the steps after the `run` line, one line after another. A proved loop has to end, and nothing says that an input does, so it
-// counts its turns down from a number that no run uses up.
-fn play_steps(
-    rt: &impl Print,
-    input: &mut impl Read,
-    buf: &mut [u8],
-    run: Run,
-    journal: &[u32],
-    opened: Stage,
-    count: u32,
-    out: &mut [u8],
-)
-    requires { Places run.at run.next run.end buf.old × Waiting 0 out.old }
-{
-    let mut stage = opened;
-    let mut at = run.next;
-    let mut end = run.end;
-    let mut used = 0;
-    let mut turns = u64::MAX;
-    while turns > 0 {
-        turns -= 1;
-        let line = input::next_line(rt, input, buf, at, end, out, used);
-        let start = line.at;
-        let lf = line.lf;
-        end = line.end;
-        used = line.used;
-        if lf == end {
-            if start == end {
-                put_windows(rt, out, used, stage, count);
-            } else {
-                refuse(rt, out, used);
-            }
-            return;
-        }
-        at = lf + 1;
-        let StepLine::Step(step) = script_line::read_step(&buf[start..lf]) else {
-            refuse(rt, out, used);
-            return;
-        };
-        let stepped = stage.step(journal, step);
-        let next = stepped.stage;
-        stage = next;
-        let reply = stepped.reply;
-        used = put_answer(rt, out, used, u64::MAX - turns, reply);
+// Reads the head. One with 2,000 entries has at most 58,918 bytes, so where no line of the first 65,536 bytes is `run`
+// the input is malformed.
+fn read_head<'a>(lines: &mut Lines<impl Read>, numbers: &'a mut [u32; 8000]) -> Option<Head<'a>> {
+    let head = lines.head()?;
+    let lf = find_lf(head)?;
+    let count = script_line::read_windows(&head[..lf])?;
+    let n = journal_text::read(&head[lf + 1..], numbers).ok()?;
+    if 2000 < n {
+        return None;
     }
+    let journal = &numbers[..4 * n];
+    Some(Head { count, journal })
+}
+
+// Plays the steps after the head, one line after another. A proved loop has to end, and nothing says that an input does,
+// so it counts the steps, up to a number that no run comes to.
+fn play_steps(
+    lines: &mut Lines<impl Read>,
+    out: &mut Output<'_, impl Print>,
+    head: Head,
+    mut stage: Stage,
+) -> Option<()> {
+    for number in 1..=u64::MAX {
+        let Some(line) = lines.next_line(out) else {
+            break;
+        };
+        let stepped = stage.step(head.journal, script_line::read_step(line)?);
+        stage = stepped.stage;
+        out.put_answer(number, stepped.reply);
+    }
+    if !lines.is_empty() {
+        return None;
+    }
+    out.put_windows(&stage, head.count);
+    Some(())
 }

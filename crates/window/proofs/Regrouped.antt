@@ -17,14 +17,14 @@ regroup true false c p q s t u d e f g = simp and-false
 regroup true true false p q s t u d e f g = simp and-false
 regroup true true true p q s t u d e f g = simp and_assoc
 
-pub window_shape-regrouped : (l current : ℕ) (v : WindowView) → window_shape l current v
+pub window_shape_regrouped : (l current : ℕ) (v : WindowView) → window_shape l current v
     ≡ ((leb (length v.normal_queue) 128 && all (queued_in l) v.normal_queue)
     && ((leb (length v.catch_queue) 128 && all (queued_in l) v.catch_queue)
     && ((leb v.acked l && (leb v.sent l && (leb (length v.batches) 8 && all (held_in l) v.batches)))
     && ((condition_held l v.condition && (next_fits v.condition && end_fits current v.condition))
     && (catch_up_fits v.condition v.catch_queue && suspended_fits v v.condition)))))
 unfolding window_shape
-window_shape-regrouped l current v =
+window_shape_regrouped l current v =
     regroup
     (leb (length v.normal_queue) 128)
     (leb (length v.catch_queue) 128)

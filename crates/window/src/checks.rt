@@ -1,12 +1,12 @@
 // What the operations at one window share: a change of condition, whether the line is dropped, what they ask first, and
-// a refusal.
+// the answer with the window that it leaves.
 ghost use Rattle.std.specs.Prelude.{◌≡◌};
-ghost use Rattle.rules.specs.Window.{refusal, is_suspended, other_term};
+ghost use Rattle.rules.specs.Window.{is_suspended, other_term};
 ghost use Rattle.window.specs.View.{view_of};
-ghost use Rattle.window.specs.Promise.{number_of, MeetsWindow};
+ghost use Rattle.window.specs.Promise.{number_of, turned};
 ghost use Rattle.window.specs.Admission.{admitted};
 
-use crate::{Answer, Condition, Head, Turned, Window};
+use crate::{Answer, Condition, Head, Refusal, Turned, Window};
 use rules::Term;
 
 impl Head {
@@ -21,18 +21,7 @@ impl Head {
           condition = condition;
         } }
     {
-        let batches = self.batches;
-        let term = self.term;
-        let acked = self.acked;
-        let sent = self.sent;
-        Head {
-            term,
-            acked,
-            sent,
-            busy: self.busy,
-            batches,
-            condition,
-        }
+        Head { condition, ..self }
     }
 }
 
@@ -42,14 +31,7 @@ impl Window {
     pub fn is_suspended(self) -> bool
         ensures { result ≡ is_suspended (view_of self).condition }
     {
-        let head = self.head;
-        let condition = head.condition;
-        match condition {
-            Condition::Normal => false,
-            Condition::Fetching { next: _, end: _ } => false,
-            Condition::Completed { end: _ } => false,
-            Condition::Suspended => true,
-        }
+        self.head.condition == Condition::Suspended
     }
 
     // Whether a term is another than this window's.
@@ -57,8 +39,7 @@ impl Window {
     fn has_other_term(self, term: Term) -> bool
         ensures { result ≡ other_term term (view_of self) }
     {
-        let head = self.head;
-        term.0 != head.term.0
+        term != self.head.term
     }
 
     // What Catch, Written and Ack ask first: 1 where a length does not fit; 3; 5.
@@ -66,24 +47,31 @@ impl Window {
         ensures { number_of result ≡ admitted term (view_of self) }
     {
         if !self.fits() {
-            return Answer::OutOfShape;
+            return Err(Refusal::OutOfShape);
         }
         if self.is_suspended() {
-            return Answer::Suspended;
+            return Err(Refusal::Suspended);
         }
         if self.has_other_term(term) {
-            return Answer::OtherTerm;
+            return Err(Refusal::OtherTerm);
         }
-        Answer::Done
+        Ok(())
     }
 
-    // A refusal: the answer, and the window as it is.
-    pub fn refused(self, answer: Answer) -> Turned
-        ensures { MeetsWindow self result (refusal (number_of answer) (view_of self)) }
+    // The answer of an operation that gives the next window or a refusal, and the window as it then is: a refusal leaves
+    // this one.
+    pub fn turned(self, next: Result<Window, Refusal>) -> Turned
+        ensures { result ≡ turned self next }
     {
-        Turned {
-            answer,
-            window: self,
+        match next {
+            Ok(window) => Turned {
+                window,
+                answer: Ok(()),
+            },
+            Err(refusal) => Turned {
+                window: self,
+                answer: Err(refusal),
+            },
         }
     }
 }

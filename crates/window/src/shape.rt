@@ -12,10 +12,7 @@ use journal::Index;
 fn up_to(n: u32, most: u32) -> bool
     ensures { result ≡ (leb 1 n && leb n most) }
 {
-    if n < 1 {
-        return false;
-    }
-    n <= most
+    1 <= n && n <= most
 }
 
 // Whether a batch limit is 1 to 32.
@@ -33,26 +30,6 @@ pub fn spacing_fits(spacing: u32) -> bool
 }
 
 impl Condition {
-    // Whether what is still to be fetched is within l and `current`, and its next is 1 to its end.
-    fn spans(next: Index, end: Index, l: u32, current: Index) -> bool
-        ensures { result ≡ ((leb next.0 l && leb end.0 l)
-            && ((leb 1 next.0 && leb next.0 end.0) && leb end.0 current.0)) }
-    {
-        if l < next.0 {
-            return false;
-        }
-        if l < end.0 {
-            return false;
-        }
-        if next.0 < 1 {
-            return false;
-        }
-        if end.0 < next.0 {
-            return false;
-        }
-        end.0 <= current.0
-    }
-
     // Whether the indices that a condition carries are at most l, a next is 1 to its end, and an end is at most
     // `current`.
     fn in_shape(self, l: u32, current: Index) -> bool
@@ -60,15 +37,11 @@ impl Condition {
             && (next_fits (condition_of self) && end_fits current.0 (condition_of self))) }
     {
         match self {
-            Condition::Normal => true,
-            Condition::Fetching { next, end } => Condition::spans(next, end, l, current),
-            Condition::Completed { end } => {
-                if l < end.0 {
-                    return false;
-                }
-                end.0 <= current.0
+            Condition::Normal | Condition::Suspended => true,
+            Condition::Fetching { next, end } => {
+                next.0 <= l && end.0 <= l && (1 <= next.0 && next <= end) && end <= current
             }
-            Condition::Suspended => true,
+            Condition::Completed { end } => end.0 <= l && end <= current,
         }
     }
 }
@@ -79,17 +52,7 @@ impl Window {
     pub fn fits(self) -> bool
         ensures { result ≡ lengths_fit (view_of self) }
     {
-        let normal = self.normal;
-        let catch_up = self.catch_up;
-        let head = self.head;
-        let batches = head.batches;
-        if 128 < normal.size() {
-            return false;
-        }
-        if 128 < catch_up.size() {
-            return false;
-        }
-        batches.size() <= 8
+        self.normal.size() <= 128 && self.catch_up.size() <= 128 && self.head.batches.size() <= 8
     }
 
     // Whether the queues suit the condition: a catch-up queue is empty in Normal and not empty in Completed, and in
@@ -99,23 +62,14 @@ impl Window {
         ensures { result ≡ (catch_up_fits (view_of self).condition (view_of self).catch_queue
             && suspended_fits (view_of self) (view_of self).condition) }
     {
-        let head = self.head;
-        let condition = head.condition;
-        let batches = head.batches;
-        let queue = self.normal;
-        let fetched = self.catch_up;
-        match condition {
-            Condition::Normal => fetched.size() == 0,
-            Condition::Fetching { next: _, end: _ } => true,
-            Condition::Completed { end: _ } => fetched.size() != 0,
+        match self.head.condition {
+            Condition::Normal => self.catch_up.size() == 0,
+            Condition::Fetching { .. } => true,
+            Condition::Completed { .. } => self.catch_up.size() != 0,
             Condition::Suspended => {
-                if queue.size() != 0 {
-                    return false;
-                }
-                if fetched.size() != 0 {
-                    return false;
-                }
-                batches.size() == 0
+                self.normal.size() == 0
+                    && self.catch_up.size() == 0
+                    && self.head.batches.size() == 0
             }
         }
     }
@@ -127,37 +81,18 @@ impl Window {
             && (leb (view_of self).sent l
             && (leb (length (view_of self).batches) 8 && all (held_in l) (view_of self).batches))) }
     {
-        let head = self.head;
-        let batches = head.batches;
-        if l < head.acked.0 {
-            return false;
-        }
-        if l < head.sent.0 {
-            return false;
-        }
-        batches.within(l)
+        self.head.acked.0 <= l && self.head.sent.0 <= l && self.head.batches.within(l)
     }
 
     // Whether this window is in shape, with l entries in the journal and `current` the last index read.
+    #[tactic(auto, using(crate::proofs::Regrouped::window_shape_regrouped), unfolding(crate::specs::View::view_of))]
     pub fn in_shape(self, l: u32, current: Index) -> bool
         ensures { result ≡ window_shape l current.0 (view_of self) }
     {
-        let head = self.head;
-        let condition = head.condition;
-        let queue = self.normal;
-        let fetched = self.catch_up;
-        if !queue.within(l) {
-            return false;
-        }
-        if !fetched.within(l) {
-            return false;
-        }
-        if !self.holds(l) {
-            return false;
-        }
-        if !condition.in_shape(l, current) {
-            return false;
-        }
-        self.queues_suit()
+        self.normal.within(l)
+            && self.catch_up.within(l)
+            && self.holds(l)
+            && self.head.condition.in_shape(l, current)
+            && self.queues_suit()
     }
 }

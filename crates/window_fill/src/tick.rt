@@ -4,7 +4,6 @@ ghost use Rattle.queue.specs.Items.{fits_cell};
 ghost use Rattle.window.specs.View.{view_of, condition_of};
 ghost use Rattle.rules.specs.Window.{is_normal, is_quiet, tick_at};
 
-use crate::requeue;
 use journal::Index;
 use window::{Condition, Window};
 
@@ -12,22 +11,14 @@ use window::{Condition, Window};
 fn is_normal(condition: Condition) -> bool
     ensures { result ≡ is_normal (condition_of condition) }
 {
-    match condition {
-        Condition::Normal => true,
-        Condition::Fetching { next: _, end: _ } => false,
-        Condition::Completed { end: _ } => false,
-        Condition::Suspended => false,
-    }
+    condition == Condition::Normal
 }
 
 // Whether a sent index is at most `current`, the index here, less the spacing.
 fn is_behind(sent: Index, spacing: u32, index: Index) -> bool
     ensures { result ≡ leb (sent.0 + spacing) index.0 }
 {
-    if index.0 < spacing {
-        return false;
-    }
-    sent.0 <= index.0 - spacing
+    spacing <= index.0 && sent.0 <= index.0 - spacing
 }
 
 // Whether this window is quiet: Normal, both queues empty, no batch unacknowledged, the line free, and sent so far
@@ -36,44 +27,27 @@ fn is_behind(sent: Index, spacing: u32, index: Index) -> bool
 fn is_quiet(window: Window, spacing: u32, index: Index) -> bool
     ensures { result ≡ is_quiet spacing index.0 (view_of window) }
 {
-    let head = window.head;
-    let condition = head.condition;
-    let queue = window.normal;
-    let fetched = window.catch_up;
-    let batches = head.batches;
-    let sent = head.sent;
-    let busy = head.busy;
-    if !is_normal(condition) {
-        return false;
-    }
-    if queue.size() != 0 {
-        return false;
-    }
-    if fetched.size() != 0 {
-        return false;
-    }
-    if batches.size() != 0 {
-        return false;
-    }
-    if busy {
-        return false;
-    }
-    is_behind(sent, spacing, index)
+    is_normal(window.head.condition)
+        && window.normal.size() == 0
+        && window.catch_up.size() == 0
+        && window.head.batches.size() == 0
+        && !window.head.busy
+        && is_behind(window.head.sent, spacing, index)
 }
 
 // The window with the index, a multiple of the spacing, in its normal queue where it is quiet.
-#[tactic(auto, unfolding(window::specs::View::view_of, rules::specs::Window::tick_at))]
+#[tactic(auto, using(crate::proofs::Ticked::tick_at_queued), unfolding(window::specs::View::view_of, rules::specs::Window::tick_at))]
 pub(crate) fn tick_at(window: Window, spacing: u32, index: Index) -> Window
     requires index_value { fits_cell index.0 ≡ true }
     requires spacing_value { index.0 % spacing ≡ 0 }
     ensures { view_of result ≡ tick_at spacing index.0 (view_of window) }
 {
-    if !is_quiet(window, spacing, index) {
-        return window;
+    if is_quiet(window, spacing, index) {
+        Window {
+            normal: window.normal.push(index.0),
+            ..window
+        }
+    } else {
+        window
     }
-    let head = window.head;
-    let condition = head.condition;
-    let queue = window.normal;
-    let fetched = window.catch_up;
-    requeue(window, queue.push(index.0), fetched, condition)
 }

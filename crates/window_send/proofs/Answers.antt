@@ -4,66 +4,25 @@ use mathlib.Core.Path.{◌≡◌, refl, sym, ap, ◌∙◌}
 use mathlib.Core.List.{List}
 use mathlib.Core.Bool.{Bool, true, false, true≢false, not}
 use native.Mathlib.Omega.{arith}
-use borrow.Author.Tests.{le-leb, lt-leb, lt-ltb, le-ltb, eq-eqb, ne_eqb, not-false}
+use borrow.Author.Tests.{eq-eqb, ne_eqb, not-false}
 use lib.ListN.{length}
 use Rattle.journal.specs.Entry.{entries_of}
 use Rattle.lists.specs.Cases.{and_left}
 use Rattle.lists.specs.Over.{over, over-front}
 use Rattle.rules.specs.View.{WindowView}
 use Rattle.rules.specs.Shape.{is_empty, lengths_fit}
-use Rattle.rules.specs.Window.{check, is_suspended, batch_of, launched, send_at}
+use Rattle.rules.specs.Window.{check, batch_of, launched, send_at}
 use Rattle.rules.specs.Rules.{batch_numbers}
-use Rattle.rules.proofs.Offers.{check-yes, check-no, check-passed, send_at-refuses, send_at-can, SentOut, send_at-done}
+use Rattle.rules.proofs.Offers.{check-yes, check-no, check-passed, send_at-refuses, SentOut, send_at-done}
 use Rattle.window_send.specs.Sending.{send_guard, send_turn, turn_output}
 use Rattle.window_send.specs.Shares.{caught_of, queued_of, parted}
 use Rattle.window_send.specs.Shares.{caught_of-held, queued_of-held, shares-limit, batch_of-parted, batch_of-length}
-use Rattle.window.proofs.Empty.{is_empty-yes, is_empty-no}
+use Rattle.window.proofs.Empty.{is_empty-yes, is_empty-length}
+use lib.Dec.{eqb}
 
--- ------------------------------------------------------------------------
--- the answer, by the first check that stops it
-
-module _ (limit size : ℕ) (v : WindowView) where
-  pub answer-1 : send_guard limit v ≡ false → (send_turn limit size v).answer ≡ 1
-  unfolding send_turn check
-  answer-1 unfit = rw unfit
-
-  module _ (ok : send_guard limit v ≡ true) where
-    pub answer-3 : is_suspended v.condition ≡ true → (send_turn limit size v).answer ≡ 3
-    unfolding send_turn send_at check
-    answer-3 away = rw (ok, away)
-
-    module _ (here : is_suspended v.condition ≡ false) where
-      pub answer-8 : v.busy ≡ true → (send_turn limit size v).answer ≡ 8
-      unfolding send_turn send_at check
-      answer-8 busy = rw (ok, here, busy)
-
-      module _ (free : v.busy ≡ false) where
-        pub answer-9 : 8 ≤ length v.batches → (send_turn limit size v).answer ≡ 9
-        unfolding send_turn send_at check
-        answer-9 many = rw (ok, here, free, le-leb 8 (length v.batches) many)
-
-        module _ (few : length v.batches < 8) where
-          pub answer-17 : size < 5 * limit → (send_turn limit size v).answer ≡ 17
-          unfolding send_turn send_at check
-          answer-17 short = rw (ok, here, free, lt-leb 8 (length v.batches) few, lt-ltb size (5 * limit) short)
-
-          module _ (room : 5 * limit ≤ size) where
-            pub answer-7 : length (batch_of limit v).indices ≡ 0 → (send_turn limit size v).answer ≡ 7
-            unfolding send_turn send_at
-            answer-7 none =
-                ap (λ t. t.answer)
-                (check-no _ 1 v _ (ap not ok)
-                ∙ check-no _ 3 v _ here
-                ∙ check-no _ 8 v _ free
-                ∙ check-no _ 9 v _ (lt-leb 8 (length v.batches) few)
-                ∙ check-no _ 17 v _ (le-ltb size (5 * limit) room)
-                ∙ check-yes _ 7 v _ (is_empty-yes (batch_of limit v).indices none))
-
-            pub answer-0 : (length (batch_of limit v).indices ≡ 0 → ⊥) → (send_turn limit size v).answer ≡ 0
-            unfolding send_turn
-            answer-0 some =
-                ap (λ t. t.answer)
-                (check-no _ 1 v _ (ap not ok) ∙ send_at-can limit size v here free few room (is_empty-no (batch_of limit v).indices some))
+-- a batch is empty where neither queue gives anything
+pub batch_empty : (k : ℕ) (v : WindowView) → is_empty (batch_of k v).indices ≡ eqb (caught_of k v + queued_of k v) 0
+batch_empty k v = sym (is_empty-length (batch_of k v).indices) ∙ ap (λ n. eqb n 0) (batch_of-length k v)
 
 -- ------------------------------------------------------------------------
 -- an answer of 0, and a refusal

@@ -1,3 +1,2 @@
 -- What the proofs share besides the laws of specs/.
 mod Answers
-mod Told

@@ -13,17 +13,17 @@ pub returns-then-not-is_start_report : goal.returns-then-not-is_start_report
 returns-then-not-is_start_report c =
     let rs = said c.args.silent c.args.reports.now in
     let turn : all (is_start_report c.args.l) rs
-    ≡ (c.is_start_report.result && all (is_start_report c.args.l) (drop (c.loop-next.next + 1) rs)) =
-    rw c.is_start_report.ensures (c.loop-next.invariant.1 ∙ reports-at _ _ _ _ c.loop-next-test.true) in
+    ≡ (c.is_start_report.result && all (is_start_report c.args.l) (drop (c.loop-w.w + 1) rs)) =
+    rw c.is_start_report.ensures (c.loop-w.invariant.1 ∙ reports-at _ _ _ _ c.loop-w-test.true) in
     rw (turn, c.if-not-is_start_report.true)
 
-pub loop-next-preserved : goal.loop-next-preserved
-loop-next-preserved c =
+pub loop-w-preserved : goal.loop-w-preserved
+loop-w-preserved c =
     let rs = said c.args.silent c.args.reports.now in
     let turn : all (is_start_report c.args.l) rs
-    ≡ (c.is_start_report.result && all (is_start_report c.args.l) (drop (c.loop-next.next + 1) rs)) =
-    rw c.is_start_report.ensures (c.loop-next.invariant.1 ∙ reports-at _ _ _ _ c.loop-next-test.true) in
+    ≡ (c.is_start_report.result && all (is_start_report c.args.l) (drop (c.loop-w.w + 1) rs)) =
+    rw c.is_start_report.ensures (c.loop-w.invariant.1 ∙ reports-at _ _ _ _ c.loop-w-test.true) in
     (search rules, rw (turn, c.if-not-is_start_report.false))
 
 pub returns : goal.returns
-returns c = rw c.loop-next.invariant.1 (sym (reports-end _ _ _ _ c.loop-next-test.false))
+returns c = rw c.loop-w.invariant.1 (sym (reports-end _ _ _ _ c.loop-w-test.false))

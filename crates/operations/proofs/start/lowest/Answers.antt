@@ -4,11 +4,11 @@ use Rattle.operations.specs.Starting.{lowest-at, lowest-end}
 use borrow.Author.Rules.{rules}
 use Rattle.operations.proofs.start.lowest.Goals as goal
 
-pub loop-next-preserved : goal.loop-next-preserved
-loop-next-preserved c = (
+pub loop-w-preserved : goal.loop-w-preserved
+loop-w-preserved c = (
   search rules,
-  rw c.lesser-low.ensures (c.loop-next.invariant.1 ∙ lowest-at _ _ _ _ c.loop-next-test.true),
+  rw c.lesser-low.ensures (c.loop-w.invariant.1 ∙ lowest-at _ _ _ _ c.loop-w-test.true),
 )
 
 pub returns : goal.returns
-returns c = sym (c.loop-next.invariant.1 ∙ lowest-end _ _ _ _ c.loop-next-test.false)
+returns c = sym (c.loop-w.invariant.1 ∙ lowest-end _ _ _ _ c.loop-w-test.false)

@@ -4,4 +4,4 @@ use Rattle.player.proofs.Player.blank.Goals as goal
 
 pub returns : goal.returns
 unfolding blank_player
-returns c = rw c.silent-window.ensures
+returns c = rw c.silent.ensures

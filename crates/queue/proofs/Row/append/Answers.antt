@@ -6,12 +6,12 @@ use Rattle.queue.specs.Items.{items_in}
 use Rattle.queue.proofs.Laws.{pushed-front-full, pushed-front-room}
 use Rattle.queue.proofs.Row.append.Goals as goal
 
-pub returns-then-row : goal.returns-then-row
+pub returns : goal.returns
 unfolding items_in
-returns-then-row g c =
+returns g c =
     let h : length c.args.self.cells ≡ g.row.N = search rules in
-    pushed-front-room _ _ _ _ _ h c.if-row.true
+    pushed-front-room _ _ _ _ _ h c.if-self.false
 
-pub returns-else-row : goal.returns-else-row
+pub returns-then-self : goal.returns-then-self
 unfolding items_in
-returns-else-row g c = pushed-front-full _ _ _ _ _ c.if-row.false
+returns-then-self g c = pushed-front-full _ _ _ _ _ c.if-self.true

@@ -7,13 +7,13 @@ use Rattle.queue.specs.Items.{items_in}
 use Rattle.queue.proofs.Laws.{front_moved, where_fits-front-over, where_fits-front-fits}
 use Rattle.queue.proofs.Row.skip.Goals as goal
 
-pub returns-then-row : goal.returns-then-row
+pub returns : goal.returns
 unfolding items_in
-returns-then-row g c =
+returns g c =
     let h : length c.args.self.cells ≡ g.row.N = search rules in
-    rw (where_fits-front-fits _ _ _ _ _ c.if-row.true, c.copy_within.ensures.after, c.min-gone.ensures)
-    (front_moved _ _ _ c.args.self.cells (omega (arith, c.if-row.true)))
+    rw (where_fits-front-fits _ _ _ _ _ c.if-self.false, c.copy_within.ensures.after, c.min-gone.ensures)
+    (front_moved _ _ _ c.args.self.cells (omega (arith, c.if-self.false)))
 
-pub returns-else-row : goal.returns-else-row
+pub returns-then-self : goal.returns-then-self
 unfolding items_in
-returns-else-row g c = where_fits-front-over _ _ _ _ _ c.if-row.false
+returns-then-self g c = where_fits-front-over _ _ _ _ _ c.if-self.true

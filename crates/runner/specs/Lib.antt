@@ -1,2 +1,0 @@
--- Places in the runner's buffers.
-pub mod Places
