@@ -1,11 +1,13 @@
 -- Laws of what opening a stage gives.
 use Prim.Native.Nat.{ℕ, zero, suc, ◌≤◌, ◌<◌}
 use Rattle.std.specs.Prelude.{◌≡◌, Bool, not, ◌&&◌, length, take, replicate}
+use Rattle.std.specs.Prelude.{Ok, Err}
+use Rattle.std.specs.Result.{is_ok}
 use Rattle.std.proofs.Math.Path.{refl, ap}
 use Rattle.std.proofs.Common.{sym, ap₂, ◌∙◌, arith}
 use mathlib.Core.List.{List, [], ◌∷◌, map}
 use Rattle.std.proofs.Math.Bool.{true, false, cond}
-use borrow.Author.Tests.{eqb-true, eqb-false, lt-leb}
+use borrow.Author.Tests.{eqb-true, eqb-false, ne_eqb, lt-leb}
 use Rattle.std.proofs.lemmas.List.{take-replicate}
 use Rattle.std.proofs.Math.Dec.{eqb, leb}
 use Rattle.lists.specs.All.{all}
@@ -20,7 +22,8 @@ use Rattle.rules.specs.View.{WindowView, PlayerView}
 use Rattle.rules.specs.Shape.{limit_fits, spacing_fits}
 use Rattle.rules.specs.Rules.{Outcome, refuse, said, is_start_report, first_fits, start_fits, start_rule}
 use Rattle.rules.proofs.Offers.{start_next, start_next-count, start_rule-done}
-use Rattle.window.specs.Promise.{number_of}
+use Rattle.window.specs.Promise.{Answer, number_of}
+use Rattle.window.proofs.Refused.{refused-not-0}
 use Rattle.player.specs.declared.Player.{Player}
 use Rattle.player.specs.declared.Played.{Played}
 use Rattle.player.specs.View.{player_of}
@@ -100,14 +103,19 @@ module _ (ns : List ℕ) (count : ℕ) where
   pub opened_by-over : (p : Player) → p ≡ blank_player → 16 < count → record { ok = false; stage = around_player p } ≡ opened_by ns count
   opened_by-over p b h = rw (answer-over h, b)
 
+  -- a stage is open where Start's number is 0
+  is_ok-number : (a : Answer) → is_ok a ≡ eqb (number_of a) 0
+  is_ok-number (Ok x) = refl
+  is_ok-number (Err e) = sym (ne_eqb _ 0 (refused-not-0 e))
+
   -- by what Start gives
   pub opened_by-start : (p : Player) → p ≡ blank_player → (r : Played) (reports : List ℕ) → count ≤ 16 →
       reports ≡ take {A = ℕ} count (replicate 16 0) →
       Starts p (count_of ns) count run_settings reports r (start_rule ns count run_settings reports (player_of p)) →
-      record { ok = eqb (number_of r.answer) 0; stage = around_player r.player } ≡ opened_by ns count
+      record { ok = is_ok r.answer; stage = around_player r.player } ≡ opened_by ns count
   unfolding opening_answer
   opened_by-start p b r reports h e k =
-      rw (sym answer)
+      rw (is_ok-number r.answer, sym answer)
       (ap (λ q. record { ok = eqb (number_of r.answer) 0; stage = around_player q }) (by (eqb (number_of r.answer) 0) refl))
     where
       told : reports ≡ zeros

@@ -1,5 +1,5 @@
 -- A step that asks something of the player is what its call, and what that leaves at its window, make of the stage.
-use Rattle.std.specs.Prelude.{ℕ, ◌<◌, ◌≡◌, refl, List, Bool, true, cond, not, ◌||◌, eqb}
+use Rattle.std.specs.Prelude.{ℕ, ◌<◌, ◌≡◌, refl, List, Bool, true, cond, not, ◌||◌, eqb, Err}
 use Rattle.std.proofs.Common.{sym, ap, ◌∙◌, true≢false, pos_of_ne-zero, arith, length-set, drop-set-lt}
 use Rattle.std.proofs.Math.Bool.{false}
 use Rattle.std.proofs.lemmas.Bool.{eqb-false}
@@ -13,7 +13,9 @@ use Rattle.rules.proofs.Offers.{ack_rule-done, drop_rule-lawful, join_rule-done}
 use Rattle.player.specs.declared.Played.{Played}
 use Rattle.player.specs.View.{player_of}
 use Rattle.player.specs.Promise.{Meets}
-use Rattle.window.specs.Promise.{number_of}
+use Rattle.window.specs.declared.Refusal.{Refusal}
+use Rattle.window.specs.Promise.{refusal_number, number_of}
+use Rattle.window.proofs.Refused.{refused-not-0}
 use Rattle.delivery.specs.World.{World, rejoined}
 use Rattle.delivery.proofs.Offers.{called-then}
 use Rattle.script_line.specs.declared.Step.{Step}
@@ -133,10 +135,12 @@ module _ (ns : List ℕ) (s : Stage) (st : Step) (x : Slot) (on : GoesOn ns s st
   pub plays-within : number_of r.answer ≡ 0 → window_of st < s.player.count
   plays-within z = step-within ns s on.held journal st lacks-here (sym made-here.meets.answer ∙ z)
 
-  pub plays-refused : {n : ℕ} → n ≡ number_of r.answer → (n ≡ 0 → ⊥) → Plays ns s st (record { reply = Answered n; stage = s })
-  plays-refused is some =
+  pub plays-refused : {x : Refusal} {n : ℕ} → r.answer ≡ Err x → n ≡ refusal_number x →
+      Plays ns s st (record { reply = Answered n; stage = s })
+  plays-refused {x} {n} refuses is =
+      let of : n ≡ number_of r.answer = is ∙ ap number_of (sym refuses) in
       plays-still ns s st _ on.held.records on.held.lines
-      (λ c. rw is (step-refuses ns s on.held journal st r lacks-here made-here.meets (λ z. some (is ∙ z))))
+      (λ c. rw of (step-refuses ns s on.held journal st r lacks-here made-here.meets (λ z. refused-not-0 x (sym is ∙ of ∙ z))))
       (λ c. absurd (true≢false (sym on.can ∙ c)))
 
   pub plays-done : {w : ℕ} (y : Settled) → w ≡ window_of st → number_of r.answer ≡ 0 → Settles x st out y →

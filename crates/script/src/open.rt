@@ -41,7 +41,7 @@ impl Stage {
             &reports[..count as usize],
         );
         Opened {
-            ok: played.answer.number() == 0,
+            ok: played.answer.is_ok(),
             stage: Stage {
                 player: played.player,
                 ..blank

@@ -10,7 +10,6 @@ use crate::{Reply, Stage, Stepped};
 use journal::Index;
 use player::{Played, Player};
 use script_line::{Step, Verb};
-use window::Answer;
 
 // The window that a step names. Main names none and is played at place 0; no Option, since `window_of` of specs/Stage.antt is 0 there.
 fn window_of(step: Step) -> u32
@@ -49,7 +48,7 @@ fn called(player: Player, journal: &[u32], slot: Slot, step: Step) -> (Played, [
         Step::At(Verb::Drop, w) => operations::drop_on(player, journal, w),
         Step::At(Verb::Join, w) => operations::join_on(player, journal, w, slot.record.last),
         Step::At(Verb::Take, _) => Played {
-            answer: Answer::Done,
+            answer: Ok(()),
             player,
         },
     };
@@ -68,9 +67,8 @@ impl Stage {
             return Stepped { reply, stage: self };
         }
         let (played, out) = called(player, journal, slot, step);
-        let number = played.answer.number();
-        if number != 0 {
-            let reply = Reply::Answered(number);
+        if let Err(refusal) = played.answer {
+            let reply = Reply::Answered(u32::from(refusal));
             return Stepped { reply, stage: self };
         }
         self.stored(at, played.player, slot.settled(step, out))

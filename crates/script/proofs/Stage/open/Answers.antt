@@ -8,5 +8,5 @@ returns-then-count-gt16 c = rw (c.new.ensures, c.new-2.ensures) (opened_by-over 
 
 pub returns : goal.returns
 returns c =
-    rw (c.new.ensures, c.new-2.ensures, c.number.ensures)
+    rw (c.new.ensures, c.new-2.ensures, c.is_ok.ensures.value)
     (opened_by-start _ _ _ c.blank-player.ensures _ _ c.if-count-gt16.false refl c.start_on-played.ensures)

@@ -1,5 +1,6 @@
 -- A step that is answered early leaves the stage as it was, and so does a refused call; any other is what its call and its window give.
-use Rattle.std.proofs.Common.{rules, arith, sym, ◌∙◌}
+use Rattle.std.proofs.Common.{rules, arith, ap}
+use Rattle.window.specs.Promise.{number_of}
 use Rattle.script.proofs.EarlyLaws.{early-none, early-plays}
 use Rattle.script.proofs.Played.{plays-within, plays-refused, plays-done}
 use Rattle.script.proofs.Stage.step.Goals as goal
@@ -9,17 +10,17 @@ returns-in-Some c =
     early-plays c.args.journal.now c.args.self c.args.step c.slot-slot.result _ c.window_of-at.ensures c.slot-slot.ensures
     (search rules) (search rules) c.early.ensures c.in-Some.is
 
-pub returns-then-number-ne0 : goal.returns-then-number-ne0
-returns-then-number-ne0 c =
+pub returns-in-Err : goal.returns-in-Err
+returns-in-Err c =
     let on = early-none c.args.journal.now c.args.self c.args.step c.slot-slot.result _ c.window_of-at.ensures c.slot-slot.ensures
     (search rules) (search rules) c.early.ensures c.in_default.is in
-    plays-refused _ _ _ _ on _ _ c.called.ensures c.number-number.ensures c.if-number-ne0.true
+    plays-refused _ _ _ _ on _ _ c.called.ensures c.in-Err.is c.from.ensures
 
 pub stored-requires : goal.stored-requires
 stored-requires c =
     let on = early-none c.args.journal.now c.args.self c.args.step c.slot-slot.result _ c.window_of-at.ensures c.slot-slot.ensures
     (search rules) (search rules) c.early.ensures c.in_default.is in
-    omega (arith, plays-within _ _ _ _ on _ _ c.called.ensures (sym c.number-number.ensures ∙ c.if-number-ne0.false), on.held.few)
+    omega (arith, plays-within _ _ _ _ on _ _ c.called.ensures (ap number_of c.in_default-answer.is), on.held.few)
 
 pub returns : goal.returns
 returns c =
@@ -27,4 +28,4 @@ returns c =
     (search rules) (search rules) c.early.ensures c.in_default.is in
     rw c.stored.ensures
     (plays-done _ _ _ _ on _ _ c.called.ensures c.settled.result c.window_of-at.ensures
-    (sym c.number-number.ensures ∙ c.if-number-ne0.false) c.settled.ensures)
+    (ap number_of c.in_default-answer.is) c.settled.ensures)
