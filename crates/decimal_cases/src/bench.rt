@@ -58,7 +58,7 @@ impl Bench {
         }
     }
 
-    // What a letter shows.
+    // What a letter shows. A `match`: each letter reads other numbers.
     fn show(&self, rt: &impl Print, letter: u8) -> io::Result<()> {
         match letter {
             b'r' => show::read(

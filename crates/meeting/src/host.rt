@@ -77,7 +77,7 @@ impl<'a> Host<'a> {
     }
 
     // Serves window w: sends it batches and fetches what it missed, until nothing is ready and nothing is left to
-    // fetch.
+    // fetch. That there is a place for it, `serve_all` has found: a type for such a window would serve these calls alone.
     fn serve(&mut self, w: u32)
         requires { w < 16 }
     {

@@ -14,7 +14,7 @@ use player::{Played, Player, count_fits};
 use rules::{Settings, Term};
 use window::{Refusal, Window, limit_fits, spacing_fits};
 
-// Whether a term can be the first: any but 0.
+// Whether a term can be the first: any but 0, which is a number and no term of a window.
 fn first_fits(first: Term) -> bool
     ensures { result ≡ first_fits first }
 {
@@ -40,7 +40,8 @@ fn is_start_report(l: u32, w: u32, report: u32, silent: u32) -> bool
     journal::has(silent, w) || report <= l
 }
 
-// Whether this holds of each window and its report.
+// Whether this holds of each window and its report. Here and below there are at most sixteen reports, as `start` finds
+// before it asks: a type for so many would be made there and used in these three functions alone.
 fn are_reports(l: u32, reports: &[u32], silent: u32) -> bool
     requires { length reports.now ≤ 16 }
     ensures { result ≡ all (is_start_report l) (said silent reports.now) }

@@ -57,7 +57,8 @@ fn start(rt: &impl Print, s: State, journal: &[u32], numbers: [u32; 4]) -> io::R
     )
 }
 
-// The operations on a player but Start.
+// The operations on a player but Start. A `match`, here and in the other files: the numbers mean another thing for each
+// letter, so closures in a table would each take them all and name them anew.
 fn operation(
     rt: &impl Print,
     p: Player,

@@ -11,7 +11,8 @@ mod indices;
 mod items;
 mod numbers;
 
-// Items, oldest first: the cells below the length. What stands past the length is no item.
+// Items, oldest first: the cells below the length. What stands past the length is no item. An array and a length: document 01 names the
+// arrays of a queue, and no library here takes from a heap.
 #[derive(Clone, Copy)]
 pub struct Row<T, const N: usize> {
     pub cells: [T; N],

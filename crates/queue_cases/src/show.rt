@@ -7,6 +7,7 @@ pub(crate) fn answer(rt: &impl Print, yes: bool) -> io::Result<()> {
 }
 
 // What a letter shows of a row: up to so many of its numbers, the size, or the number at a place; nothing where it is none of these.
+// A `match`: each letter reads other parameters.
 pub(crate) fn letter<C: Cell, const N: usize>(
     rt: &impl Print,
     row: Row<C, N>,

@@ -56,7 +56,7 @@ impl<R: Read> Lines<R> {
     }
 
     // Passes lines until one is `run`, and answers the bytes before that one. None where the buffer is full or the input
-    // ends first.
+    // ends first. A loop: it counts nothing, and whether there is more to read is known only once it is read.
     pub(crate) fn head(&mut self) -> Option<&[u8]> {
         loop {
             if let Some(n) = find_lf(&self.buf[self.at..self.end]) {
@@ -87,7 +87,8 @@ impl<R: Read> Lines<R> {
         self.at = 0;
     }
 
-    // Reads on from a step line that has no LF yet, until it has one, it is too long or the input ends.
+    // Reads on from a step line that has no LF yet, until it has one, it is too long or the input ends. A loop: it counts
+    // nothing, and how far a read comes is known only once it is made.
     fn read_step_len(&mut self) -> Option<usize>
         ensures { IfSome result (λ n. self.new.at + n < self.new.end) }
     {

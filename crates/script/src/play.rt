@@ -28,7 +28,8 @@ fn after(index: Index) -> Index
     Index(index.0.saturating_add(1))
 }
 
-// What the player makes of the call that a step is, and what is then in an output of ten zeros. Take asks nothing.
+// What the player makes of the call that a step is, and what is then in an output of ten zeros. Take asks nothing. A `match`: each step
+// hands its call other parts of the slot.
 fn called(player: Player, journal: &[u32], slot: Slot, step: Step) -> (Played, [u32; 10])
     ensures { Made journal.now player slot step result.0 result.1 }
 {

@@ -31,7 +31,7 @@ pub fn spacing_fits(spacing: u32) -> bool
 
 impl Condition {
     // Whether the indices that a condition carries are at most l, a next is 1 to its end, and an end is at most
-    // `current`.
+    // `current`. By `.0` where the other side, l or 1, is a number and no index.
     fn in_shape(self, l: u32, current: Index) -> bool
         ensures { result ≡ (condition_held l (condition_of self)
             && (next_fits (condition_of self) && end_fits current.0 (condition_of self))) }
@@ -74,7 +74,8 @@ impl Window {
         }
     }
 
-    // Whether the acknowledged index, the sent index and the last indices of at most 8 batches are at most l.
+    // Whether the acknowledged index, the sent index and the last indices of at most 8 batches are at most l, which is a
+    // number of entries and no index.
     #[tactic(auto, unfolding(crate::specs::View::view_of))]
     fn holds(self, l: u32) -> bool
         ensures { result ≡ (leb (view_of self).acked l

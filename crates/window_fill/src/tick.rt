@@ -14,7 +14,7 @@ fn is_normal(condition: Condition) -> bool
     condition == Condition::Normal
 }
 
-// Whether a sent index is at most `current`, the index here, less the spacing.
+// Whether a sent index is at most `current`, the index here, less the spacing, which is a number and no index.
 fn is_behind(sent: Index, spacing: u32, index: Index) -> bool
     ensures { result ≡ leb (sent.0 + spacing) index.0 }
 {
