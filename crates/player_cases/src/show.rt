@@ -31,6 +31,7 @@ pub(crate) fn out(rt: &impl Print, list: &[u32], n: usize) -> io::Result<()> {
     first(rt, "out", list, n)
 }
 
+// Each condition by its own words, which are no derived form.
 fn condition(rt: &impl Print, c: Condition) -> io::Result<()> {
     match c {
         Condition::Normal => print!(rt; ", Normal"),
