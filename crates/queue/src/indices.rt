@@ -17,6 +17,8 @@ impl Queue {
     pub fn within(self, l: u32) -> bool
         ensures { result ≡ (leb (length (items_of self)) 128 && all (queued_in l) (items_of self)) }
     {
-        self.len <= 128 && cells::all_queued(&self.cells[..self.len], l)
+        // The cells alone: their 256 bytes are copied with fewer instructions than the row's 264.
+        let cells = self.cells;
+        self.len <= 128 && cells::all_queued(&cells[..self.len], l)
     }
 }
