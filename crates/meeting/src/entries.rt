@@ -10,7 +10,8 @@ fn set_of(i: u32) -> u32 {
     }
 }
 
-// Makes so many entries, four numbers each. Kinds and races take turns, and the value of entry i is i.
+// Makes so many entries, four numbers each. Kinds and races take turns, and the value of entry i is i. It wraps nowhere: what bounds the
+// places, a proof no longer sees behind `zip`.
 pub(crate) fn fill(numbers: &mut [u32], count: u32) {
     let (entries, _) = numbers.as_chunks_mut::<4>();
     for (place, entry) in (0..count).zip(entries) {

@@ -17,7 +17,8 @@ pub(crate) fn all_queued(cells: &[u16], l: u32) -> bool
     each
 }
 
-// Moves those of the first n cells that are above x to the front, in order, and gives how many they are.
+// Moves those of the first n cells that are above x to the front, in order, and gives how many they are. In place and by index: a
+// `filter` that is collected takes from a heap.
 pub(crate) fn keep_above(cells: &mut [u32], n: usize, x: u32) -> usize
     requires { n ≤ length cells.old }
     ensures { front 0 result cells.new ≡ above x (front 0 n cells.old) }

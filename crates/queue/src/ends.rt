@@ -6,6 +6,12 @@ ghost use Rattle.lists.specs.All.{all, held_in};
 use crate::{Batches, cells};
 
 impl Batches {
+    // No batches, as `Queue::FRESH` says.
+    pub const FRESH: Batches = Batches {
+        cells: [0; 8],
+        len: 0,
+    };
+
     // The batches that end above x, in order, or as they were where the length is above 8.
     pub fn above(self, x: u32) -> Batches
         ensures { batches_of result ≡ kept_above 8 x (batches_of self) }

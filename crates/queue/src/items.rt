@@ -2,24 +2,17 @@
 ghost use Rattle.std.specs.Prelude.{◌≡◌, [], length, get_or, slice_get};
 ghost use Rattle.queue.specs.Items.{items_in, fresh_row, pushed, skipped};
 
-use crate::{Fresh, Item, Row};
-
-impl<T: Item, const N: usize> Fresh for Row<T, N> {
-    ghost FRESH = { fresh_row N T.NONE };
-
-    // A row without items.
-    const FRESH: Row<T, N> = Row {
-        cells: [T::NONE; N],
-        len: 0,
-    };
-}
+use crate::{Item, Row};
 
 impl<T: Item, const N: usize> Row<T, N> {
     // A row without items.
     pub fn new() -> Row<T, N>
         ensures { result ≡ fresh_row N T.NONE }
     {
-        Self::FRESH
+        Row {
+            cells: [T::NONE; N],
+            len: 0,
+        }
     }
 
     // The row with one more item at its end, or as it was where it is full.

@@ -33,13 +33,6 @@ pub trait Item: Copy {
     const NONE: Self;
 }
 
-// The row, or whatever it is, that one begins with.
-pub trait Fresh: Sized {
-    ghost FRESH: { Self };
-
-    const FRESH: Self;
-}
-
 // A cell for numbers: which of them it can hold, what it then holds, and the number that it holds.
 pub trait Cell: Item {
     ghost fits: { ℕ → Bool };

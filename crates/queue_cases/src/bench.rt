@@ -1,6 +1,6 @@
 // What stands between two bytes of the input: a queue, batches and the numbers read so far; and what each byte does to them.
 use crate::show;
-use queue::{Batches, Fresh, Queue};
+use queue::{Batches, Queue};
 use std::io;
 
 // The queue and the batches of a case, the last number, the one before it, and whether the label is still being read.
