@@ -1,7 +1,7 @@
 // One step of a script: a call of the player, or of a window's record, and what it leaves for that window.
-ghost use Rattle.std.specs.Prelude.{◌<◌, ◌≡◌};
+ghost use Rattle.std.specs.Prelude.{◌≡◌, replicate};
 ghost use Rattle.script.specs.Stage.{window_of};
-ghost use Rattle.script.specs.Stored.{index_after, Made, stored_by};
+ghost use Rattle.script.specs.Stored.{index_after, Made};
 ghost use Rattle.script.specs.Promise.{Plays};
 
 use crate::settle::Settled;
@@ -30,14 +30,14 @@ fn after(index: Index) -> Index
 
 // What the player makes of the call that a step is, and what is then in an output of ten zeros. Take asks nothing. A `match`: each step
 // hands its call other parts of the slot.
-fn called(player: Player, journal: &[u32], slot: Slot, step: Step) -> (Played, [u32; 10])
-    ensures { Made journal.now player slot step result.0 result.1 }
+fn called(player: Player, journal: &[u32], slot: &Slot, step: Step, out: &mut [u32; 10]) -> Played
+    requires { out.old ≡ replicate 10 0 }
+    ensures { Made journal.now player slot.now step result out.new }
 {
-    let mut out = [0; 10];
-    let played = match step {
+    match step {
         Step::Main => operations::main_on(player, journal, after(player.current)),
         Step::At(Verb::Catch, w) => operations::catch_on(player, journal, w, slot.term, slot.due),
-        Step::At(Verb::Send, w) => operations::send_on(player, journal, w, &mut out),
+        Step::At(Verb::Send, w) => operations::send_on(player, journal, w, out),
         Step::At(Verb::Written, w) => operations::written_on(player, journal, w, slot.term),
         Step::At(Verb::Ack, w) => operations::ack_on(
             player,
@@ -52,35 +52,27 @@ fn called(player: Player, journal: &[u32], slot: Slot, step: Step) -> (Played, [
             answer: Ok(()),
             player,
         },
-    };
-    (played, out)
+    }
 }
 
 impl Stage {
     // One step of a script: Answered(1), with the stage as it was, where the journal is out of shape or the stage does not fit.
-    pub fn step(self, journal: &[u32], step: Step) -> Stepped
+    pub fn step(mut self, journal: &[u32], step: Step) -> Stepped
         ensures { Plays journal.now self step result }
     {
-        let player = self.player;
         let at = window_of(step) as usize;
         let slot = self.slot(at);
-        if let Some(reply) = slot.early(journal, player.count, step) {
+        if let Some(reply) = slot.early(journal, self.player.count, step) {
             return Stepped { reply, stage: self };
         }
-        let (played, out) = called(player, journal, slot, step);
+        let mut out = [0; 10];
+        let played = called(self.player, journal, &slot, step, &mut out);
         if let Err(refusal) = played.answer {
             let reply = Reply::Answered(u32::from(refusal));
             return Stepped { reply, stage: self };
         }
-        self.stored(at, played.player, slot.settled(step, out))
-    }
-
-    // The stage with another player, and with what a step leaves for the window at a place.
-    fn stored(mut self, at: usize, player: Player, settled: Settled) -> Stepped
-        requires { at < 16 }
-        ensures { result ≡ stored_by self at player settled }
-    {
-        self.player = player;
+        let settled = slot.settled(step, out);
+        self.player = played.player;
         self.records[at] = settled.record;
         self.lines[at] = settled.line;
         Stepped {

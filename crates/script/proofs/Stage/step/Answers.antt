@@ -14,18 +14,23 @@ pub returns-in-Err : goal.returns-in-Err
 returns-in-Err c =
     let on = early-none c.args.journal.now c.args.self c.args.step c.slot-slot.result _ c.window_of-at.ensures c.slot-slot.ensures
     (search rules) (search rules) c.early.ensures c.in_default.is in
-    plays-refused _ _ _ _ on _ _ c.called.ensures c.in-Err.is c.from.ensures
+    plays-refused _ _ _ _ on _ _ c.called-played.ensures c.in-Err.is c.from.ensures
 
-pub stored-requires : goal.stored-requires
-stored-requires c =
+pub bounds-self-at : goal.bounds-self-at
+bounds-self-at c =
     let on = early-none c.args.journal.now c.args.self c.args.step c.slot-slot.result _ c.window_of-at.ensures c.slot-slot.ensures
     (search rules) (search rules) c.early.ensures c.in_default.is in
-    omega (arith, plays-within _ _ _ _ on _ _ c.called.ensures (ap number_of c.in_default-answer.is), on.held.few)
+    omega (arith, plays-within _ _ _ _ on _ _ c.called-played.ensures (ap number_of c.in_default-answer.is), on.held.few)
+
+pub bounds-self-at-2 : goal.bounds-self-at-2
+bounds-self-at-2 c =
+    let on = early-none c.args.journal.now c.args.self c.args.step c.slot-slot.result _ c.window_of-at.ensures c.slot-slot.ensures
+    (search rules) (search rules) c.early.ensures c.in_default.is in
+    omega (arith, plays-within _ _ _ _ on _ _ c.called-played.ensures (ap number_of c.in_default-answer.is), on.held.few)
 
 pub returns : goal.returns
 returns c =
     let on = early-none c.args.journal.now c.args.self c.args.step c.slot-slot.result _ c.window_of-at.ensures c.slot-slot.ensures
     (search rules) (search rules) c.early.ensures c.in_default.is in
-    rw c.stored.ensures
-    (plays-done _ _ _ _ on _ _ c.called.ensures c.settled.result c.window_of-at.ensures
-    (ap number_of c.in_default-answer.is) c.settled.ensures)
+    plays-done _ _ _ _ on _ _ c.called-played.ensures c.settled-settled.result c.window_of-at.ensures
+    (ap number_of c.in_default-answer.is) c.settled-settled.ensures
