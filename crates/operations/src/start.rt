@@ -46,8 +46,8 @@ fn are_reports(l: u32, reports: &[u32], silent: u32) -> bool
     requires { length reports.now ≤ 16 }
     ensures { result ≡ all (is_start_report l) (said silent reports.now) }
 {
-    for w in 0..reports.len() {
-        if !is_start_report(l, w as u32, reports[w], silent) {
+    for (w, &report) in reports.iter().enumerate() {
+        if !is_start_report(l, w as u32, report, silent) {
             return false;
         }
     }
@@ -71,8 +71,8 @@ fn lowest(l: u32, reports: &[u32], silent: u32) -> Index
     ensures { result.0 ≡ lowest l (said silent reports.now) }
 {
     let mut low = l;
-    for w in 0..reports.len() {
-        low = lesser(low, w as u32, reports[w], silent);
+    for (w, &report) in reports.iter().enumerate() {
+        low = lesser(low, w as u32, report, silent);
     }
     Index(low)
 }
@@ -94,6 +94,7 @@ fn windows_of(first: Term, l: Index, reports: &[u32], silent: u32) -> [Window; 1
     ensures { result ≡ fresh_windows first l.0 (said silent reports.now) }
 {
     let mut windows = [Window::started(first, Index(0)); 16];
+    // By index: what is written through an adapter of iter_mut a proof does not know.
     for w in 0..reports.len() {
         windows[w] = window_of(first, l, w as u32, Index(reports[w]), silent);
     }
