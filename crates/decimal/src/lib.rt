@@ -67,6 +67,7 @@ pub fn write(n: u32, out: &mut [u8], at: usize) -> Option<usize>
 }
 
 // Puts the digits of `n` into the places from `at` to before `end`, the last one first.
+// By index: what is written through an adapter of `iter_mut`, here `rev`, a proof does not know.
 #[tactic(auto, using(crate::proofs::Writing::left_digit, crate::proofs::Writing::left_none))]
 fn fill(n: u32, out: &mut [u8], at: usize, end: usize)
     requires { (end ≡ at + length (numeral n)) × (end ≤ length out.old) }

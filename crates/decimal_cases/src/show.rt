@@ -1,7 +1,7 @@
 // What a letter shows, each with a blank before it.
 use std::io;
 
-// A byte as it stands.
+// A byte as it stands. By `write_all`: bytes need be no text, which `print!` takes.
 pub(crate) fn byte(rt: &impl Print, b: u8) -> io::Result<()> {
     rt.write_all(&[b])
 }

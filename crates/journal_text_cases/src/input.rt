@@ -23,6 +23,7 @@ pub(crate) fn number(input: &mut impl Read) -> io::Result<usize> {
 }
 
 // Shows the bytes up to a quote, of which there are at most 100, as a line.
+// By `write_all`: bytes need be no text, which `print!` takes.
 pub(crate) fn label(rt: &impl Print, input: &mut impl Read) -> io::Result<()> {
     for _ in 0..100 {
         let b = next(input)?;

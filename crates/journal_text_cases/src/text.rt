@@ -4,7 +4,8 @@ use std::io::Read;
 use std::rt::Files;
 use std::{fs, io};
 
-// Reads until the buffer is full or the input ends, and answers how many bytes came. No `for`: each read tells how far it came.
+// Reads until the buffer is full or the input ends, and answers how many bytes came.
+// No `read_exact`: a short input keeps what came.
 fn read_full(input: &mut impl Read, buf: &mut [u8]) -> io::Result<usize> {
     let mut end = 0;
     while end < buf.len() {

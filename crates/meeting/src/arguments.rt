@@ -14,6 +14,7 @@ pub(crate) fn number(rt: &impl Env, i: usize, least: u32, most: u32) -> Option<u
 }
 
 // Whether there is an argument i.
+// Alike in runner and meeting: reading and printing stand in no library (docs/DECISIONS.md).
 pub(crate) fn has(rt: &impl Env, i: usize) -> bool {
     !matches!(rt.arg(i, &mut []), Err(FillError::NotPresent))
 }

@@ -8,8 +8,7 @@ use record::Record;
 use rules::{Settings, Term};
 use window::{Condition, Refusal};
 
-// More turns than serving a window takes. A proved loop has to end, so it counts its turns up to a number that no run
-// comes to.
+// More turns than serving a window takes: a number that no run comes to. No plainer: a proved loop has to end.
 const TURNS: u64 = u64::MAX;
 
 // The spacing of ticks: a window that has no entry of its own for so long gets a tick, so that a start does not begin

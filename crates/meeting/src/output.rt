@@ -3,6 +3,7 @@ use record::Record;
 use std::io;
 
 // Prints each window's number, its last index and its count, a line.
+// Alike in runner and meeting: reading and printing stand in no library (docs/DECISIONS.md).
 pub(crate) fn windows(rt: &impl Print, records: &[Record]) -> io::Result<()> {
     for (w, record) in records.iter().enumerate() {
         println!(rt; "window {w} {} {}", record.last.0, record.count)?;

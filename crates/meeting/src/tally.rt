@@ -2,6 +2,7 @@
 use window::{Answer, Refusal};
 
 // How many calls were made, how many batches were sent, and the papers' number of the first refusal.
+// A number: the refusals are of two enums.
 #[derive(Clone, Copy, Default)]
 pub(crate) struct Tally {
     pub(crate) calls: u64,

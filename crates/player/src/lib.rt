@@ -13,6 +13,7 @@ use window::{Answer, Window};
 
 // The player: the number of windows, the batch limit, the spacing of ticks, the last index read by the main stream, and
 // the windows. Those from the number of windows up are no part of the state.
+// An array with a count: no heap, and `first_windows` reads it so.
 #[derive(Clone, Copy)]
 pub struct Player {
     pub count: u32,

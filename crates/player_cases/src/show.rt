@@ -5,7 +5,7 @@ use queue::Queue;
 use std::io;
 use window::{Answer, Condition, Head, Window};
 
-// A byte as it stands.
+// A byte as it stands. By `write_all`: bytes need be no text, which `print!` takes.
 pub(crate) fn byte(rt: &impl Print, b: u8) -> io::Result<()> {
     rt.write_all(&[b])
 }
@@ -62,6 +62,7 @@ fn sizes(rt: &impl Print, x: Window) -> io::Result<()> {
 // The first three indices of a queue.
 fn three(rt: &impl Print, name: &str, q: Queue) -> io::Result<()> {
     print!(rt; ", {name}")?;
+    // By `item`, the call that the case shows.
     for k in 0..q.size().min(3) {
         print!(rt; " {}", q.item(k))?;
     }

@@ -59,6 +59,7 @@ impl<T: Item, const N: usize> Row<T, N> {
     }
 
     // The oldest item, where there is one: what the first cell holds.
+    // No Option: what reads the oldest, `take_from` of script, reads the first cell, whatever the length is.
     pub fn first(self) -> T
         ensures { result ≡ get_or self.cells 0 T.NONE }
     {

@@ -76,7 +76,7 @@ impl Cell for u16 {
     }
 
     fn number(self) -> u32 {
-        self as u32
+        u32::from(self)
     }
 
     ghost none_is_zero = { refl };

@@ -16,6 +16,7 @@ impl<C: Cell, const N: usize> Row<C, N> {
     }
 
     // The number at the place k, counted from 0, and 0 past the end.
+    // 0 and no Option past the end, as was promised; `get` has the Option.
     pub fn item(self, k: usize) -> u32
         ensures { result ≡ C.number (get_or (items_in C.NONE self) k C.NONE) }
     {

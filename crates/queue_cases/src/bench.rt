@@ -109,7 +109,7 @@ impl Bench {
         })
     }
 
-    // The bench after one more byte.
+    // The bench after one more byte. By `write_all`: bytes need be no text, which `print!` takes.
     pub(crate) fn feed(self, rt: &impl Print, byte: u8) -> io::Result<Bench> {
         if byte == b'\n' {
             rt.write_all(&[byte])?;

@@ -17,6 +17,7 @@ pub(crate) fn letter<C: Cell, const N: usize>(
 ) -> io::Result<()> {
     match letter {
         b'i' => {
+            // By `item`, the call that the case shows.
             for k in 0..row.size().min(most) {
                 print!(rt; " {}", row.item(k))?;
             }

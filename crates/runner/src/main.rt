@@ -23,7 +23,7 @@ fn play_file(rt: &(impl Files + Print + Eprint), name: &str) {
 // Plays the input of a name, after a line with the name. `-` is standard input.
 fn play_named(rt: &(impl Files + Input + Print + Eprint), name: &[u8]) {
     rt.write_all(name).unwrap_or(());
-    rt.write_all(b"\n").unwrap_or(());
+    println!(rt).unwrap_or(());
     match str::from_utf8(name) {
         Ok("-") => play::play(rt, rt.reader()),
         Ok(name) => play_file(rt, name),
@@ -42,6 +42,7 @@ fn play_argument(rt: &(impl Env + Files + Input + Print + Eprint), i: usize) {
 }
 
 // Whether there is an argument i.
+// Alike in runner and meeting: reading and printing stand in no library (docs/DECISIONS.md).
 fn has_argument(rt: &impl Env, i: usize) -> bool {
     !matches!(rt.arg(i, &mut []), Err(FillError::NotPresent))
 }

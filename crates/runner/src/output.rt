@@ -32,6 +32,7 @@ impl<'a, P: Print> Output<'a, P> {
     }
 
     // Writes all that waits. A write that fails is passed over.
+    // By `write_all`: bytes need be no text, which `print!` takes.
     pub(crate) fn flush(&mut self)
         ensures { array_vec_len self.new.waiting ≡ 0 }
     {
@@ -56,6 +57,7 @@ impl<'a, P: Print> Output<'a, P> {
     }
 
     // Puts a line for each of the first windows, `count` of them: its number, its last index and its count.
+    // Alike in runner and meeting: reading and printing stand in no library (docs/DECISIONS.md).
     pub(crate) fn put_windows(&mut self, stage: &Stage, count: u32) {
         for (w, record) in stage.records.iter().take(count as usize).enumerate() {
             let _ = writeln!(self, "window {w} {} {}", record.last.0, record.count);

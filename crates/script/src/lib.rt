@@ -22,7 +22,7 @@ pub struct Stage {
 }
 
 // What a step answers: the papers' number, or that a Take or an Ack found its line empty. No Option: Empty is an answer, which is
-// printed as such, and the name says what None would not.
+// printed as such, and the name says what None would not. By the papers' number: record and window refuse by two enums.
 #[derive(Clone, Copy, Debug, PartialEq, Eq)]
 pub enum Reply {
     Answered(u32),

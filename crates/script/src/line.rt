@@ -79,6 +79,7 @@ impl Line {
     }
 
     // The line with the batch on it that Send wrote into an output of ten numbers: of one entry where the second index is 0, else of two.
+    // No Option of a second entry: `batch_shown` reads the output so.
     pub(crate) fn loaded(self, out: [u32; 10], term: Term) -> Line
         requires { self.entries.len ≤ 16 }
         ensures { Grown self (batch_shown out term) result }

@@ -25,6 +25,7 @@ pub struct Slot {
 }
 
 // The index due in a condition: the next one of Fetching, and 0 in any other.
+// 0 and no Option: `due_in` of specs/Stage.antt is 0 there.
 fn due_in(condition: Condition) -> Index
     ensures { result ≡ record { 0 = due_in (condition_of condition) } }
 {
