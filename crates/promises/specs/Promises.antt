@@ -19,6 +19,7 @@ use Rattle.record.specs.declared.Record.{Record}
 use Rattle.record.specs.declared.Refusal.{Refusal}
 use Rattle.record.specs.declared.Refusal.TheVariants.{OutOfShape, Full}
 use Rattle.record.specs.Record.{outcome_of, refusal_number, number_of, take_numbers}
+use Rattle.record.specs.Record as Take
 use Rattle.record.proofs.Laws.{take_numbers-refused}
 use Rattle.rules.specs.declared.Settings.{Settings}
 use Rattle.rules.specs.Window.{Report}
@@ -187,12 +188,16 @@ given_lent-outcome numbers own (Err refusal) left number record' =
     ap₂ (λ n x. record { number = n; record' = x }) number
     (sym (take_numbers-refused numbers own (λ z. refusal-not-0 refusal (number ∙ z))))
 
--- The contract of Take on a record lent is read in the logic's own terms: what it ensures entails the same. The record is lent as `a.0` and
--- left as `s.0`.
+-- The contract of Take on a record lent is read in the logic's own terms: what it ensures entails the same, and that the record left is the
+-- outcome's, after a refusal too. The record is lent as `a.0` and left as `s.0`.
 pub take-lent-made : {M : Type 1} {𝓤 : Ura M} (𝓛 : Logic 𝓤) (mem : Memory → SProp 𝓤) (run : Routine → Fun 𝓤)
     (κs : Lfts 2) (a : Args lent.signature κs) (r : Result ⊤ Refusal) (s : AtExit lent.ended κs)
     (h : Host) (w : ℕ) (acks : Bool) (front : Sent) (rest : List Sent) → (end_at w h).record' ≡ a.0.now → (end_at w h).line ≡ front ∷ rest →
     front.numbers ≡ a.1.0.now →
-    ent 𝓤 ((lent.clauses 𝓛 mem run κs a).ensures tt r s) (fact 𝓤 (Made h (take w acks (given_lent r s.0.now))))
+    ent 𝓤 ((lent.clauses 𝓛 mem run κs a).ensures tt r s)
+    (fact 𝓤 (Made h (take w acks (given_lent r s.0.now)) × (s.0.now ≡ (outcome_of a.0.now (given_lent r s.0.now)).record')))
 take-lent-made {𝓤 = 𝓤} 𝓛 mem run κs a r s h w acks front rest own line five =
-    fact_mono 𝓤 _ _ (λ (number, left). rw (own, line, five) (given_lent-outcome _ _ r s.0.now number left))
+    fact_mono 𝓤 _ _ (λ (number, left). (
+      rw (own, line, five) (given_lent-outcome _ _ r s.0.now number left),
+      left ∙ sym (ap (λ (o : Take.Outcome). o.record') (given_lent-outcome a.1.0.now a.0.now r s.0.now number left)),
+    ))
