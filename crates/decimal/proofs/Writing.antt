@@ -4,7 +4,6 @@ use Prim.Native.Nat.{ℕ, suc, ◌*◌, ◌^◌, ◌+◌, ◌-◌, ◌/◌, ◌%
 use native.Mathlib.Omega.{arith}
 use mathlib.Core.Path.{◌≡◌, ◌∙◌, sym}
 use Rattle.std.specs.Prelude.{Some, None}
-use mathlib.Core.Logic.{◌⊎◌, inl, inr}
 use Rattle.std.proofs.Common.{⊎_elim, pow-suc}
 use Rattle.lists.specs.Cases.{le-or-lt}
 use mathlib.Core.List.{List, [], ◌∷◌}
@@ -22,8 +21,8 @@ numeral_length_small n h = rw (numeral-small n h)
 pub numeral_length_step : (n : ℕ) → 10 ≤ n → length (numeral n) ≡ length (numeral (n / 10)) + 1
 numeral_length_step n h = rw (numeral-step n h, length-append)
 
-pub numeral_length_zero : 1 ≡ length (numeral 0)
-numeral_length_zero = sym (numeral_length_small 0 (omega arith))
+pub numeral_length_one : (n : ℕ) → n < 10 → 1 ≡ length (numeral n)
+numeral_length_one n h = sym (numeral_length_small n h)
 
 pub numeral_length_is : (n k : ℕ) → 10 ^ k ≤ n → n < 10 * 10 ^ k → k + 1 ≡ length (numeral n)
 numeral_length_is n k h l =
@@ -59,28 +58,26 @@ module _ (n : ℕ) (buf : List ℕ) (at : ℕ) where
   write_nothing h = sym (with_numeral-full n buf at h)
 
 -- Left: what a turn of `fill`'s loop keeps. The digits of `rest` are left to write, and end before the place i: written over what the
--- buffer holds now, they make the number written over what it held at first. Or none is left, and that is what it holds.
+-- buffer holds now, they make the number written over what it held at first.
 module _ (n : ℕ) (buf : List ℕ) (at : ℕ) where
   abbrev pub Left : ℕ → List ℕ → ℕ → Type 0
-  Left rest out i =
-      ((i ≡ at + length (numeral rest)) × (with_numeral rest out at ≡ with_numeral n buf at)) ⊎ ((i ≡ at) × (out ≡ with_numeral n buf at))
+  Left rest out i = (i ≡ at + length (numeral rest)) × (with_numeral rest out at ≡ with_numeral n buf at)
 
-  pub left_digit : (rest : ℕ) (out : List ℕ) (i : ℕ) → at < i → i ≤ length out → Left rest out i
+  pub left_digit : (rest : ℕ) (out : List ℕ) (i : ℕ) → at + 1 < i → i ≤ length out → Left rest out i
       → Left (rest / 10) (set out (i - 1) (48 + rest % 10)) (i - 1)
-  left_digit rest out i h b l = ⊎_elim some (λ e. absurd (omega arith)) l
-    where
-      some : (i ≡ at + length (numeral rest)) × (with_numeral rest out at ≡ with_numeral n buf at)
-          → Left (rest / 10) (set out (i - 1) (48 + rest % 10)) (i - 1)
-      some e =
-          ⊎_elim (λ (m : 10 ≤ rest).
-          inl (omega (arith, numeral_length_step rest m), with_numeral-step rest out at (i - 1) (omega arith) (omega arith) m ∙ e.1))
-          (λ (m : rest < 10).
-          let d : rest % 10 ≡ rest = omega arith in
-          inr (
-            omega (arith, numeral_length_small rest m),
-            rw d (with_numeral-last rest out at (i - 1) (omega arith) (omega arith) m ∙ e.1),
-          ))
-          (le-or-lt 10 rest)
+  left_digit rest out i h b l =
+      let m : 10 ≤ rest
+      = ⊎_elim (λ (m : 10 ≤ rest). m) (λ (m : rest < 10). absurd (omega (arith, numeral_length_small rest m, l.0, h))) (le-or-lt 10 rest) in
+      (omega (arith, numeral_length_step rest m, l.0), with_numeral-step rest out at (i - 1) (omega (arith, l.0, h)) (omega arith) m ∙ l.1)
 
-  pub left_none : (rest : ℕ) (out : List ℕ) (i : ℕ) → i ≤ at → Left rest out i → out ≡ with_numeral n buf at
-  left_none rest out i h l = ⊎_elim (λ e. absurd (omega (arith, e.0, numeral-nonempty rest))) (λ e. e.1) l
+  -- the first digit is left
+  pub left_few : (rest : ℕ) (out : List ℕ) (i : ℕ) → i ≤ at + 1 → Left rest out i → rest < 10
+  left_few rest out i h l =
+      ⊎_elim (λ (m : 10 ≤ rest). absurd (omega (arith, numeral_length_step rest m, numeral-nonempty (rest / 10), l.0, h)))
+      (λ (m : rest < 10). m) (le-or-lt 10 rest)
+
+  pub left_last : (rest : ℕ) (out : List ℕ) (i : ℕ) → i ≤ at + 1 → at < length out → Left rest out i
+      → set out at (48 + rest) ≡ with_numeral n buf at
+  left_last rest out i h b l =
+      let m = left_few rest out i h l in
+      with_numeral-last rest out at at (omega (arith, numeral_length_small rest m)) b m ∙ l.1

@@ -19,7 +19,10 @@ pub(crate) fn entries(rt: &impl Print, input: &mut impl Read, journal: &[u32]) -
 // Fills the journal with notes to window 0.
 pub(crate) fn fill(journal: &mut [u32]) {
     for entry in journal.chunks_exact_mut(4) {
-        entry.copy_from_slice(&[1, 4, 0, 0]);
+        entry[0] = 1;
+        entry[1] = 4;
+        entry[2] = 0;
+        entry[3] = 0;
     }
 }
 

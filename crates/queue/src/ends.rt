@@ -1,6 +1,6 @@
 // What the last indices of batches do besides.
 ghost use Rattle.std.specs.Prelude.{◌≡◌, ◌&&◌, leb, length};
-ghost use Rattle.queue.specs.Items.{batches_of, kept_above};
+ghost use Rattle.queue.specs.Items.{batches_of, fresh_batches, kept_above};
 ghost use Rattle.lists.specs.All.{all, held_in};
 
 use crate::{Batches, cells};
@@ -11,6 +11,13 @@ impl Batches {
         cells: [0; 8],
         len: 0,
     };
+
+    // No batches, as `Queue::fresh` says.
+    pub fn fresh() -> Batches
+        ensures { result ≡ fresh_batches }
+    {
+        Batches::FRESH
+    }
 
     // The batches that end above x, in order, or as they were where the length is above 8.
     pub fn above(self, x: u32) -> Batches

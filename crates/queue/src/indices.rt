@@ -1,6 +1,6 @@
 // What queues of indices do besides.
 ghost use Rattle.std.specs.Prelude.{◌≡◌, ◌&&◌, leb, length};
-ghost use Rattle.queue.specs.Items.{items_of, fits_cell};
+ghost use Rattle.queue.specs.Items.{items_of, fresh_queue, fits_cell};
 ghost use Rattle.lists.specs.All.{all, queued_in};
 
 use crate::{Cell, Queue, cells};
@@ -11,6 +11,13 @@ impl Queue {
         cells: [0; 128],
         len: 0,
     };
+
+    // That queue: what `new` gives of any row, by the array that document 01 names.
+    pub fn fresh() -> Queue
+        ensures { result ≡ fresh_queue }
+    {
+        Queue::FRESH
+    }
 
     // Whether a cell can hold the number. Every index of a journal in shape is such a number.
     pub fn fits_cell(x: u32) -> bool

@@ -1,5 +1,6 @@
 // Lines from an input, by way of a buffer of fixed size.
 ghost use Rattle.std.specs.Prelude.{◌+◌, ◌≤◌, ◌<◌, ◌≡◌, IsTrue, IfSome, length};
+ghost use Rattle.arrayvec.specs.ArrayVec.{array_vec_len};
 ghost use Rattle.runner.specs.declared.input.TheConstants.{SIZE};
 
 use crate::output::Output;
@@ -81,7 +82,9 @@ impl<R: Read> Lines<R> {
     }
 
     // Moves the bytes that are not passed to the front of the buffer.
-    fn move_front(&mut self) {
+    fn move_front(&mut self)
+        ensures { (self.new.at ≡ 0) × (self.new.end + self.old.at ≡ self.old.end) }
+    {
         self.buf.copy_within(self.at..self.end, 0);
         self.end -= self.at;
         self.at = 0;
@@ -103,7 +106,9 @@ impl<R: Read> Lines<R> {
 
     // The next step line, which is passed. None where there is none, or it has no LF or is too long. Where it is not whole
     // in the buffer, the output that waits is written before more is read.
-    pub(crate) fn next_line(&mut self, out: &mut Output<'_, impl Print>) -> Option<&[u8]> {
+    pub(crate) fn next_line(&mut self, out: &mut Output<'_, impl Print>) -> Option<&[u8]>
+        ensures { array_vec_len out.new.waiting ≤ array_vec_len out.old.waiting }
+    {
         let n = match self.step_len() {
             Some(n) => n,
             None => {

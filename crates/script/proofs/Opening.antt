@@ -8,7 +8,7 @@ use Rattle.std.proofs.Common.{sym, ap₂, ◌∙◌, arith}
 use mathlib.Core.List.{List, [], ◌∷◌, map}
 use Rattle.std.proofs.Math.Bool.{true, false, cond}
 use borrow.Author.Tests.{eqb-true, eqb-false, ne_eqb, lt-leb}
-use Rattle.std.proofs.lemmas.List.{take-replicate}
+use Rattle.std.proofs.lemmas.List.{take-replicate, length-replicate}
 use Rattle.std.proofs.Math.Dec.{eqb, leb}
 use Rattle.lists.specs.All.{all}
 use Rattle.lists.specs.Cases.{and_left}
@@ -90,6 +90,10 @@ module _ (ns : List ℕ) (count : ℕ) (settings : Settings) (reports : List ℕ
 
 -- ------------------------------------------------------------------------
 -- opened_by
+
+-- the reports of so many windows, as many as there are
+pub reports-count : (n : ℕ) → n ≤ 16 → n ≡ length (take {A = ℕ} n (replicate 16 0))
+reports-count n h = sym (ap length (take-replicate n 16 0 h) ∙ length-replicate n 0)
 
 module _ (ns : List ℕ) (count : ℕ) where
   abbrev zeros : List ℕ

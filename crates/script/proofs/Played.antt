@@ -10,6 +10,7 @@ use Rattle.rules.specs.View.{PlayerView}
 use Rattle.rules.specs.Rules.{catch_rule, written_rule, drop_rule}
 use Rattle.rules.proofs.Offers.{shaped, main_rule-done, main_rule-count, catch_rule-lawful, send_rule-done, written_rule-lawful}
 use Rattle.rules.proofs.Offers.{ack_rule-done, drop_rule-lawful, join_rule-done}
+use Rattle.player.specs.declared.Player.{Player}
 use Rattle.player.specs.declared.Played.{Played}
 use Rattle.player.specs.View.{player_of}
 use Rattle.player.specs.Promise.{Meets}
@@ -19,6 +20,7 @@ use Rattle.window.proofs.Refused.{refused-not-0}
 use Rattle.delivery.specs.World.{World, rejoined}
 use Rattle.delivery.proofs.Offers.{called-then}
 use Rattle.script_line.specs.declared.Step.{Step}
+use Rattle.script_line.specs.declared.Verb.{Verb}
 use Rattle.script_line.specs.declared.Step.TheVariants.{Main, At}
 use Rattle.script_line.specs.declared.Verb.TheVariants.{Catch, Send, Written, Ack, Drop, Join, Take}
 use Rattle.script.specs.declared.slot.Slot.{Slot}
@@ -27,7 +29,7 @@ use Rattle.script.specs.declared.Stage.{Stage}
 use Rattle.script.specs.declared.Reply.TheVariants.{Answered}
 use Rattle.script.specs.Stage.{world_of, window_of, line_in}
 use Rattle.script.specs.Promise.{is_refusal, Steps, Plays}
-use Rattle.script.specs.Stored.{slot_in, lacks, outcome_at, Made, Settles, stored_by}
+use Rattle.script.specs.Stored.{slot_in, lacks, outcome_at, output_at, Made, Settles, stored_by}
 use Rattle.script.proofs.Worlds.{player_of-count, changed, Staged}
 use Rattle.script.proofs.Calls.{playable-facts, operate-count, refused-steps, called-steps, main-calls, catch-calls, written-calls}
 use Rattle.script.proofs.Calls.{drop-calls}
@@ -35,6 +37,28 @@ use Rattle.script.proofs.Settled.{line_in-within, join-calls, join-steps, withou
 use Rattle.script.proofs.Takes.{take_steps}
 use Rattle.script.proofs.Sends.{with_batch, send-calls, send-steps}
 use Rattle.script.proofs.EarlyLaws.{plays-still, GoesOn}
+
+-- ------------------------------------------------------------------------
+-- Made
+
+-- of Main, and of a verb
+pub made-main : (ns : List ℕ) (p : Player) (x : Slot) {st : Step} {r r' : Played} {out : List ℕ} → st ≡ Main → r ≡ r' →
+    out ≡ output_at ns p Main → Meets p r' (outcome_at ns p x Main) → Made ns p x st r out
+made-main ns p x from is wrote meets = record { meets = rw (from, is) meets; wrote = rw from wrote }
+
+pub made_at : (ns : List ℕ) (p : Player) (x : Slot) {st : Step} {verb v : Verb} {w : ℕ} {r r' : Played} {out out' : List ℕ} →
+    st ≡ At verb w → verb ≡ v → r ≡ r' → out ≡ out' → Meets p r' (outcome_at ns p x (At v w)) → out' ≡ output_at ns p (At v w) →
+    Made ns p x st r out
+made_at ns p x from told is output meets wrote = record { meets = rw (from, told, is) meets; wrote = rw (from, told, output) wrote }
+
+-- Take asks nothing
+pub unasked : (p : Player) (r : Played) → r.player ≡ p → number_of r.answer ≡ 0 → Meets p r (record { answer = 0; next = player_of p })
+unasked p r same zero = record {
+  answer = zero;
+  next = ap player_of same;
+  unchanged = λ n. absurd (n refl);
+  above = rw same;
+}
 
 -- ------------------------------------------------------------------------
 -- Settles

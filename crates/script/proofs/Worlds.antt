@@ -178,6 +178,17 @@ slot_in-present s h windows w x r l here =
       get_or-any s.lines w l fresh_line (omega arith),
     )
 
+-- either, by whether the window is one of the player's
+pub slot_in-of : (s : Stage) → Staged s → length s.player.windows ≡ 16 → (w : ℕ) (x : Window) (r : Record) (l : Line) →
+    cond (ltb w s.player.count) (present (view_of (get_or s.player.windows w x)) (get_or s.records w r) (get_or s.lines w l)) absent
+    ≡ slot_in w s
+slot_in-of s h windows w x r l = by (ltb w s.player.count) refl
+  where
+    by : (b : Bool) → ltb w s.player.count ≡ b →
+        cond b (present (view_of (get_or s.player.windows w x)) (get_or s.records w r) (get_or s.lines w l)) absent ≡ slot_in w s
+    by true e = slot_in-present s h windows w x r l (ltb-true _ _ e)
+    by false e = slot_in-absent s w (ltb-false _ _ e)
+
 -- what is there stored again
 pub stored_at-same : (s : Stage) (w : ℕ) (p : Player) → w < s.player.count →
     stored_at w p (record_in w s) (line_in w s) s ≡ record { player = p; records = s.records; lines = s.lines }
