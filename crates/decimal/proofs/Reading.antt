@@ -13,11 +13,45 @@ use Rattle.std.proofs.lemmas.List.{take_min, take_all}
 use Rattle.lists.specs.Cases.{le-or-lt}
 use borrow.Author.Tests.{le-leb, lt-leb}
 use Rattle.std.specs.Prelude.{Some, None}
+use Rattle.std.specs.List.{prefix_len, take_while}
+use Rattle.std.proofs.lemmas.List.Folds.{length-prefix_len}
+use Rattle.lists.specs.All.{between-bounds}
 use Rattle.decimal.specs.Numeral.{is_digit, lead_digits, value_from, canonical, read_at}
 use Rattle.decimal.specs.Value.{lead_digits-digit, lead_digits-other, lead_digits-again, lead_digits-append, value_from-append}
 use Rattle.decimal.specs.Value.{numeral-canonical, numeral-length-u32}
 
 -- lead_digits
+
+-- as std counts them
+lead_digits-take : (s : List ℕ) → take (prefix_len is_digit s) s ≡ lead_digits s
+unfolding lead_digits
+lead_digits-take [] = refl
+lead_digits-take (b ∷ s) = go (is_digit b) refl (lead_digits-take s)
+  where
+    go : (t : Bool) → is_digit b ≡ t → take (prefix_len is_digit s) s ≡ lead_digits s
+        → take (prefix_len is_digit (b ∷ s)) (b ∷ s) ≡ lead_digits (b ∷ s)
+    go true e ih =
+        let m : 1 + prefix_len is_digit s ≡ suc (prefix_len is_digit s) = omega arith in
+        rw (lead_digits-digit b s e) (simp (e, m) (ap (λ (l : List ℕ). b ∷ l) ih))
+    go false e ih = rw (lead_digits-other b s e) (simp e)
+
+pub lead_digits-count : (n : ℕ) (s : List ℕ) → n ≡ length (take_while is_digit s) → take n s ≡ lead_digits s
+lead_digits-count n s e = rw (e, length-prefix_len is_digit s) (lead_digits-take s)
+
+-- none is below `0`
+pub lead_digits-byte : (s : List ℕ) (k : ℕ) → k < length (lead_digits s) → 48 ≤ get_or (lead_digits s) k 0
+unfolding lead_digits
+lead_digits-byte [] k h = absurd (omega arith)
+lead_digits-byte (b ∷ s) k h = go (is_digit b) refl k h (lead_digits-byte s)
+  where
+    go : (t : Bool) → is_digit b ≡ t → (k : ℕ) → k < length (lead_digits (b ∷ s))
+        → ((i : ℕ) → i < length (lead_digits s) → 48 ≤ get_or (lead_digits s) i 0) → 48 ≤ get_or (lead_digits (b ∷ s)) k 0
+    go true e zero h ih = rw (lead_digits-digit b s e) (between-bounds 48 57 b e).0
+    go true e (suc k) h ih = rw (lead_digits-digit b s e) (ih k (omega (arith, h, ap length (lead_digits-digit b s e))))
+    go false e k h ih = absurd (omega (arith, h, ap length (lead_digits-other b s e)))
+
+pub digit-low : (n : ℕ) (s : List ℕ) (k : ℕ) → n ≡ length (take_while is_digit s) → k < length (take n s) → 48 ≤ get_or (take n s) k 0
+digit-low n s k e h = let d = lead_digits-count n s e in rw d (lead_digits-byte s k (rw d at h))
 
 -- of a front of a text
 lead_digits-front : (m : ℕ) (s : List ℕ) → lead_digits (take m s) ≡ take m (lead_digits s)
@@ -124,6 +158,26 @@ module _ (bound : ℕ) (text rest : List ℕ) (at most m : ℕ) (enough : 11 ≤
       let few = digits-few most (drop at text) enough (ap canonical (sym front) ∙ c) (omega (arith, h, b, e ∙ ap (value_from 0) front)) in
       let all : take n near ≡ ds = front ∙ few in
       simp (all, ap canonical (sym all) ∙ c, sym (e ∙ ap (value_from 0) all), le-leb v bound h)
+
+-- The same where all digits there are counted first, as std counts them: `rest` is the text from the place on, of which the first n bytes are digits.
+module _ (bound : ℕ) (text rest : List ℕ) (at n : ℕ) (r : rest ≡ take (length text - at) (drop at text))
+    (d : n ≡ length (take_while is_digit rest)) where
+  all-here : lead_digits (drop at text) ≡ take n rest
+  all-here = sym (lead_digits-count n rest d ∙ ap lead_digits (r ∙ rw (← length-drop at text) (take-length (drop at text))))
+
+  pub all-other : canonical (take n rest) ≡ false → None ≡ read_at bound text at
+  unfolding read_at
+  all-other h = rw (all-here, h)
+
+  pub all-above : (k : ℕ) → bound < value_from 0 (take k (take n rest)) → None ≡ read_at bound text at
+  unfolding read_at
+  all-above k h =
+      simp (all-here, lt-leb (value_from 0 (take n rest)) bound (omega (arith, value_from-take (take n rest) k)), and-false)
+
+  pub all-number : (v : ℕ) → canonical (take n rest) ≡ true → v ≡ value_from 0 (take n rest) → v ≤ bound
+      → Some (v, at + length (take n rest)) ≡ read_at bound text at
+  unfolding read_at
+  all-number v c e h = simp (all-here, c, ← e, le-leb v bound h)
 
 pub answer_end : (bound : ℕ) (text : List ℕ) (at : ℕ) → length text ≤ at → None ≡ read_at bound text at
 unfolding read_at lead_digits canonical

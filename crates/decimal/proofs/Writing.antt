@@ -24,6 +24,9 @@ numeral_length_step n h = rw (numeral-step n h, length-append)
 pub numeral_length_one : (n : ℕ) → n < 10 → 1 ≡ length (numeral n)
 numeral_length_one n h = sym (numeral_length_small n h)
 
+pub numeral_length_zero : 1 ≡ length (numeral 0)
+numeral_length_zero = numeral_length_one 0 (omega arith)
+
 pub numeral_length_is : (n k : ℕ) → 10 ^ k ≤ n → n < 10 * 10 ^ k → k + 1 ≡ length (numeral n)
 numeral_length_is n k h l =
     omega (arith, numeral-length-gt n k h, numeral-length-le n (suc k) (omega arith) (omega (arith, pow-suc 10 k)))
